@@ -1,0 +1,36 @@
+// The vocabulary of the plan splitter: numbers, logics, kinds, rows and refusals.
+pub mod kinds;
+pub mod numbers;
+pub mod refusals;
+pub mod rowing;
+
+pub use kinds::Kind;
+pub use kinds::KindDebug;
+pub use kinds::KindPartialEq;
+pub use numbers::Ends;
+pub use numbers::EndsDebug;
+pub use numbers::EndsPartialEq;
+pub use numbers::LinkNo;
+pub use numbers::LinkNoDebug;
+pub use numbers::LinkNoPartialEq;
+pub use numbers::Logic;
+pub use numbers::LogicDebug;
+pub use numbers::LogicPartialEq;
+pub use numbers::RowNo;
+pub use numbers::RowNoDebug;
+pub use numbers::RowNoPartialEq;
+pub use numbers::StepNo;
+pub use numbers::StepNoDebug;
+pub use numbers::StepNoPartialEq;
+pub use refusals::Layer;
+pub use refusals::LayerDebug;
+pub use refusals::LayerPartialEq;
+pub use refusals::Place;
+pub use refusals::PlaceDebug;
+pub use refusals::PlacePartialEq;
+pub use refusals::Refusal;
+pub use refusals::RefusalDebug;
+pub use refusals::RefusalPartialEq;
+pub use rowing::Row;
+pub use rowing::RowDebug;
+pub use rowing::RowPartialEq;

@@ -1,0 +1,10 @@
+// Plans: the six questions that tell a plan's meaning, the gateway table, and the turned plan.
+pub mod asking;
+pub mod gateway;
+pub mod turning;
+
+pub use asking::Plan;
+pub use gateway::GatewayTable;
+pub use gateway::as_plan::GatewayTablePlan;
+pub use turning::Turned;
+pub use turning::TurnedPlan;

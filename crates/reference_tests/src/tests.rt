@@ -1,14 +1,11 @@
 use model::Ends;
 use model::Kind;
-use model::KindDebug;
-use model::KindPartialEq;
 use model::LinkNo;
-use model::LinkNoDebug;
-use model::LinkNoPartialEq;
 use model::Logic;
+use model::Row;
+use model::RowDebug;
 use model::RowNo;
-use model::RowNoDebug;
-use model::RowNoPartialEq;
+use model::RowPartialEq;
 use model::StepNo;
 use reference::Listing;
 use reference::Sketch;
@@ -163,19 +160,32 @@ fn sketch_of(sample: &Sample, heap: Global) -> Result<Option<Sketch>, AllocError
     }))
 }
 
+// The row of this number that the sample shows.
+fn shown_row(shown: &Shown, number: u16) -> Row {
+    Row {
+        number: RowNo(number),
+        parent: Some(RowNo(shown.0)),
+        kind: shown.1,
+        entry: Some(LinkNo(shown.2)),
+        exit: Some(LinkNo(shown.3)),
+        inside: shown.4,
+    }
+}
+
 fn check_rows(listing: &Listing, rows: &[Shown]) -> Result<(), Fail> {
     check_eq(listing.rows.len(), rows.len().saturating_add(1))?;
-    for (number, shown) in rows.iter().enumerate() {
-        let row = listing
-            .rows
-            .get(number.saturating_add(1))
-            .copied()
-            .ok_or("no such row")?;
-        check_eq(row.parent, Some(RowNo(shown.0)))?;
-        check_eq(row.kind, shown.1)?;
-        check_eq(row.entry, Some(LinkNo(shown.2)))?;
-        check_eq(row.exit, Some(LinkNo(shown.3)))?;
-        check_eq(row.inside, shown.4)?;
+    let mut number: u16 = 0;
+    for (row, shown) in listing.rows.iter().skip(1).zip(rows.iter()) {
+        number = number.saturating_add(1);
+        check_eq(*row, shown_row(shown, number))?;
+    }
+    Ok(())
+}
+
+fn check_classes(listing: &Listing, names: &[u16]) -> Result<(), Fail> {
+    check_eq(listing.classes.len(), names.len())?;
+    for (class, name) in listing.classes.iter().zip(names.iter()) {
+        check_eq(class.0, *name)?;
     }
     Ok(())
 }
@@ -187,10 +197,7 @@ fn samples(rt: LibcRuntime) -> Result<(), Fail> {
         let sketch = sketch_of(sample, heap)?.ok_or("no sketch")?;
         check(sketch.sound(heap)?)?;
         let listing = Listing::new(&sketch, heap)?;
-        check_eq(listing.classes.len(), sample.classes.len())?;
-        for (class, name) in listing.classes.iter().zip(sample.classes.iter()) {
-            check_eq(class.0, *name)?;
-        }
+        check_classes(&listing, sample.classes)?;
         check_rows(&listing, sample.rows)?;
     }
     Ok(())

@@ -23,7 +23,7 @@ use Rattle.text.specs.Spelling.{digits-of, spelled}
 use Rattle.text.specs.declared.lines.Frame.{Frame}
 
 -- no line feed among the first n bytes
-abbrev No-feed : List ℕ → ℕ → Type 0
+abbrev pub No-feed : List ℕ → ℕ → Type 0
 No-feed bs n = (k : ℕ) → k < n → getD bs k 0 ≡ 10 → ⊥
 
 first-line-is : (text : List ℕ) (i : ℕ) → i < length text → getD text i 0 ≡ 10 → No-feed text i → first-line text ≡ take i text
@@ -50,13 +50,14 @@ pub record Going (text : List ℕ) (frames : List Frame) (rest : List ℕ) (line
 pub at-start : (text : List ℕ) → length text ≤ 65535 → Ended text → (frames : List Frame) → frames ≡ [] → Going text frames text 1
 unfolding spelled
 at-start text short ended [] e = record {
-    short = short;
-    ended = ended;
-    begins = refl;
-    good = tt;
-    numbered = λ k d h. absurd (not-suc-le-zero h);
-    next = refl;
-    left = omega arith }
+  short = short;
+  ended = ended;
+  begins = refl;
+  good = tt;
+  numbered = λ k d h. absurd (not-suc-le-zero h);
+  next = refl;
+  left = omega arith;
+}
 at-start text short ended (f ∷ frames) e = let z : _≡_ {A = ℕ} 1 0 = omega (arith, ap length e) in absurd (omega arith)
 
 -- a line and what follows its line feed
@@ -76,37 +77,39 @@ numbered-push frames f old new k d h =
     ⊎-elim
     (λ (l : k < length frames). ap (λ (g : Frame). g .line) (getD-append-left frames (f ∷ []) d k l) ∙ old k d l)
     (λ (l : length frames ≤ k).
-      let e : length frames ≡ k = omega (arith, length-push frames f) in
-      ap (λ (g : Frame). g .line) (getD-push frames f d k e) ∙ new ∙ ap (λ n. n + 1) e)
+    let e : length frames ≡ k = omega (arith, length-push frames f) in
+    ap (λ (g : Frame). g .line) (getD-push frames f d k e) ∙ new ∙ ap (λ n. n + 1) e)
     (cases-lt k (length frames))
 
 -- one line more
 pub one-more : (text : List ℕ) (frames : List Frame) (rest : List ℕ) (line : ℕ) → Going text frames rest line
-  → (i : ℕ) (f : Frame) → i < length rest → getD rest i 0 ≡ 10 → 0 < i → Spelt line (take (i - 0) rest) f
-  → (frames′ : List Frame) (rest′ : List ℕ) → frames′ ≡ frames ++ f ∷ [] → rest′ ≡ drop (i + 1) rest → Going text frames′ rest′ (line + 1)
+    → (i : ℕ) (f : Frame) → i < length rest → getD rest i 0 ≡ 10 → 0 < i → Spelt line (take (i - 0) rest) f
+    → (frames′ : List Frame) (rest′ : List ℕ) → frames′ ≡ frames ++ f ∷ [] → rest′ ≡ drop (i + 1) rest → Going text frames′ rest′ (line + 1)
 one-more text frames rest line g i f h e some s frames′ rest′ ef er =
     let left : line + 1 + length (drop (i + 1) rest) ≤ length text + 1 = omega (arith, length-drop (i + 1) rest, g .left) in
     let push = map-push bytes-of frames f in
     let P : List Frame → List ℕ → Type 0 = λ fs xs. Going text fs xs (line + 1) in
     let at : P (frames ++ f ∷ []) (drop (i + 1) rest) = record {
-        short = g .short;
-        ended = g .ended;
-        begins = grown text rest (map bytes-of frames) (bytes-of f) i (g .begins) h e (s .spells) ∙ ap (λ fs. spelled fs ++ drop (i + 1) rest) (sym push);
-        good = subst (λ (xs : List (List ℕ)). All Is-frame xs) (sym push) (all-push Is-frame (map bytes-of frames) (bytes-of f) (g .good) (omega arith, s .small));
-        numbered = numbered-push frames f (g .numbered) (s .numbered ∙ g .next);
-        next = ap (λ n. n + 1) (g .next) ∙ ap (λ n. n + 1) (sym (length-push frames f));
-        left = left }
+      short = g .short;
+      ended = g .ended;
+      begins = grown text rest (map bytes-of frames) (bytes-of f) i (g .begins) h e (s .spells) ∙ ap (λ fs. spelled fs ++ drop (i + 1) rest) (sym push);
+      good = subst (λ (xs : List (List ℕ)). All Is-frame xs) (sym push) (all-push Is-frame (map bytes-of frames) (bytes-of f) (g .good) (omega arith, s .small));
+      numbered = numbered-push frames f (g .numbered) (s .numbered ∙ g .next);
+      next = ap (λ n. n + 1) (g .next) ∙ ap (λ n. n + 1) (sym (length-push frames f));
+      left = left;
+    }
     in subst (λ (xs : List ℕ). P frames′ xs) (sym er) (subst (λ (fs : List Frame). P fs (drop (i + 1) rest)) (sym ef) at)
 
 pub stopped : (text : List ℕ) (frames : Vec Frame Global) (rest : List ℕ) (line : ℕ) (end : Result (Unit {0}) TextFault) → Going text (vec-items frames) rest line → Stops line rest end → Read text (record { frames = frames; end = end })
 stopped text frames rest line end g s = record {
-    short = g .short;
-    ended = g .ended;
-    rest = rest;
-    begins = g .begins;
-    frames = g .good;
-    numbered = g .numbered;
-    stops = subst (λ (n : ℕ). Stops n rest end) (g .next) s }
+  short = g .short;
+  ended = g .ended;
+  rest = rest;
+  begins = g .begins;
+  frames = g .good;
+  numbered = g .numbered;
+  stops = subst (λ (n : ℕ). Stops n rest end) (g .next) s;
+}
 
 pub at-fault : (rest : List ℕ) (line i : ℕ) (e : TextFault) → i < length rest → getD rest i 0 ≡ 10 → No-feed rest i → Line-fault line (take (i - 0) rest) e → Stops line rest (Err e)
 at-fault rest line i e h feed none fault = (omega arith, subst (λ (bs : List ℕ). Line-fault line bs e) (ap (λ n. take n rest) (sub-zero i) ∙ sym (first-line-is rest i h feed none)) fault)
@@ -118,8 +121,8 @@ at-end text frames rest line g none =
     let total : length text ≡ length front + length rest = ap length (g .begins) ∙ length-append front rest in
     ⊎-elim
     (λ (h : 0 < length rest).
-      let n : length text - 1 ≡ length front + (length rest - 1) = omega arith in
-      let last = ap (λ i. getD text i 0) (sym n) ∙ g .ended (omega arith) in
-      absurd (none (length rest - 1) (omega arith) (sym (ap (λ xs. getD xs (length front + (length rest - 1)) 0) (g .begins) ∙ getD-append-add front rest (length rest - 1) 0) ∙ last)))
+    let n : length text - 1 ≡ length front + (length rest - 1) = omega arith in
+    let last = ap (λ i. getD text i 0) (sym n) ∙ g .ended (omega arith) in
+    absurd (none (length rest - 1) (omega arith) (sym (ap (λ xs. getD xs (length front + (length rest - 1)) 0) (g .begins) ∙ getD-append-add front rest (length rest - 1) 0) ∙ last)))
     (λ (h : length rest ≤ 0). nil-from-length rest (omega arith))
     (cases-lt 0 (length rest))

@@ -14,6 +14,7 @@ loop-k-again c =
 
 pub returns : need.returns
 returns c = record {
-    numbered = refl;
-    spells = c .loop-k .inv .0 ∙ take-all (2 * c .loop-k .k) (c .args .digits .now) (omega (arith, c .pre .even));
-    small = c .loop-k .inv .1 }
+  numbered = refl;
+  spells = c .loop-k .inv .0 ∙ take-all (2 * c .loop-k .k) (c .args .digits .now) (omega (arith, c .pre .even));
+  small = c .loop-k .inv .1;
+}

@@ -1,17 +1,16 @@
 -- Reading a text line by line: what holds before each line, and at the end.
 use mathlib.Core.Path.{_≡_, refl, sym, ap, _∙_, subst}
-use mathlib.Core.List.{List, [], _∷_, _++_, map, append-assoc, append-nil}
-use mathlib.Core.Logic.{_⊎_, inl, inr, ⊎-elim}
+use mathlib.Core.List.{List, [], _∷_, _++_, map, append-assoc}
+use mathlib.Core.Logic.{_⊎_, ⊎-elim}
 use Prim.Native.Nat.{ℕ, zero, suc, _+_, _-_, _<_, _≤_}
 use native.Mathlib.Nat.{le-of-suc-le-suc, not-suc-le-zero, sub-zero}
 use native.Mathlib.Omega.{arith}
 use lib.ListN.{length, getD, take, drop}
 use Rattle.std.proofs.shelf.Elements.{all-push}
-use Rattle.std.proofs.shelf.Lists.{length-append, length-drop, length-push, length-take-le, map-push, joined-more, take-append-drop, drop-more, getD-append-add, getD-append-left, getD-push, nil-from-length}
-use Rattle.std.proofs.shelf.Tests.{eq-eqb, ne-eqb, cond-true, cond-false, cases-eq, cases-lt}
-use Rattle.std.specs.Joined.{joined}
+use Rattle.std.proofs.shelf.Lists.{length-append, length-drop, length-push, map-push, joined-more, take-append-drop, drop-more, getD-append-add, getD-append-left, getD-push, nil-from-length}
+use Rattle.std.proofs.shelf.Tests.{eq-eqb, ne-eqb, cond-true, cond-false, cases-lt}
 use Rattle.std.specs.declared.result.Result.{Result}
-use Rattle.std.specs.declared.result.Result.the-variants.{Ok, Err}
+use Rattle.std.specs.declared.result.Result.the-variants.{Err}
 use Rattle.std.specs.shelf.Lists.{All}
 use Rattle.std.specs.Of.Vec.{vec-items}
 use Rattle.std.specs.declared.alloc.Global.{Global}
@@ -19,7 +18,7 @@ use Rattle.std.specs.declared.vec.Vec.{Vec}
 use Rattle.text.specs.Decoded.{bytes-of, Spelt, Is-frame, Numbered, Ended, Stops, Read}
 use Rattle.text.specs.Line.{first-line, Line-fault}
 use Rattle.text.specs.declared.faults.TextFault.{TextFault}
-use Rattle.text.specs.Spelling.{digits-of, spelled}
+use Rattle.text.specs.Spelling.{digits-of, spelled, Spells}
 use Rattle.text.specs.declared.lines.Frame.{Frame}
 
 -- no line feed among the first n bytes
@@ -101,11 +100,14 @@ one-more text frames rest line g i f h e some s frames′ rest′ ef er =
     in subst (λ (xs : List ℕ). P frames′ xs) (sym er) (subst (λ (fs : List Frame). P fs (drop (i + 1) rest)) (sym ef) at)
 
 pub stopped : (text : List ℕ) (frames : Vec Frame Global) (rest : List ℕ) (line : ℕ) (end : Result (Unit {0}) TextFault) → Going text (vec-items frames) rest line → Stops line rest end → Read text (record { frames = frames; end = end })
+unfolding Spells
 stopped text frames rest line end g s = record {
   short = g .short;
   ended = g .ended;
+  front = spelled (map bytes-of (vec-items frames));
   rest = rest;
-  begins = g .begins;
+  parts = g .begins;
+  spells = refl;
   frames = g .good;
   numbered = g .numbered;
   stops = subst (λ (n : ℕ). Stops n rest end) (g .next) s;

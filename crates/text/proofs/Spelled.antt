@@ -1,22 +1,22 @@
 -- What a text spells is determined by the text.
 use mathlib.Core.Path.{_≡_, refl, sym, ap, _∙_, subst}
-use mathlib.Core.Bool.{Bool, true, false, cond}
-use mathlib.Core.List.{List, [], _∷_, _++_, map, append-assoc, append-nil}
-use mathlib.Core.Logic.{_⊎_, inl, inr, ⊎-elim}
-use Prim.Native.Nat.{ℕ, zero, suc, _+_, _-_, _*_, _/_, _%_, _<_, _≤_}
-use native.Mathlib.Nat.{le-of-suc-le-suc, not-suc-le-zero}
+use mathlib.Core.Bool.{true, false}
+use mathlib.Core.List.{List, [], _∷_, _++_, append-assoc}
+use mathlib.Core.Logic.{_⊎_, ⊎-elim}
+use Prim.Native.Nat.{ℕ, zero, suc, _+_, _-_, _*_, _/_, _%_, _<_}
+use native.Mathlib.Nat.{not-suc-le-zero}
 use native.Mathlib.Omega.{arith}
-use lib.Dec.{eqb, ltb}
-use lib.ListN.{length, getD}
+use lib.Dec.{eqb}
+use lib.ListN.{length}
 use Rattle.std.proofs.shelf.Lists.{append-cancel-left, length-append}
-use Rattle.std.proofs.shelf.Tests.{ne-eqb, cond-false}
+use Rattle.std.proofs.shelf.Tests.{cond-false}
 use Rattle.std.proofs.shelf.Ways.{tells}
 use Rattle.std.specs.Options.{isSome}
 use Rattle.std.specs.shelf.Lists.{All}
 use Rattle.text.specs.Decoded.{Is-frame}
 use Rattle.text.specs.Digit.{hex, digit-of}
-use Rattle.text.specs.Line.{first-line, Digits, Good-line, No-digit, Line-fault}
-use Rattle.text.specs.Spelling.{hex-pair, digits-of, spelled}
+use Rattle.text.specs.Line.{first-line, Digits, Good-line}
+use Rattle.text.specs.Spelling.{digits-of, spelled}
 
 hex-digit : (n : ℕ) → n < 16 → isSome (digit-of (hex n)) ≡ true
 hex-digit n h = grind (arith, tells)

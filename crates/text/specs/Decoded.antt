@@ -9,7 +9,7 @@ use Rattle.std.specs.Of.Vec.{vec-items}
 use Rattle.std.specs.declared.result.Result.{Result}
 use Rattle.std.specs.declared.result.Result.the-variants.{Ok, Err}
 use Rattle.std.specs.shelf.Lists.{All, countBy}
-use Rattle.text.specs.Spelling.{digits-of, spelled}
+use Rattle.text.specs.Spelling.{digits-of, Spells}
 use Rattle.text.specs.Line.{first-line, Line-fault}
 use Rattle.text.specs.declared.faults.TextFault.{TextFault}
 use Rattle.text.specs.declared.faults.TextFault.the-variants.{TooLong, NoLineFeed, EmptyLine, NoDigit, OddDigits, Memory}
@@ -60,12 +60,14 @@ Whole-fault text (NoDigit line column) = ⊥
 Whole-fault text (OddDigits line) = ⊥
 Whole-fault text Memory = ⊥
 
--- the frames of a text, up to its end or to the first faulty line
+-- the frames of a text, up to its end or to the first faulty line: they are spelled at its front
 pub record Read (text : List ℕ) (out : Frames) : Type 0 where
   pub short : length text ≤ 65535
   pub ended : Ended text
+  pub front : List ℕ
   pub rest : List ℕ
-  pub begins : text ≡ spelled (frames-in out) ++ rest
+  pub parts : text ≡ front ++ rest
+  pub spells : Spells front (frames-in out)
   pub frames : All Is-frame (frames-in out)
   pub numbered : Numbered (vec-items (out .frames))
   pub stops : Stops (length (vec-items (out .frames)) + 1) rest (out .end)

@@ -8,22 +8,26 @@ use Rattle.std.specs.declared.result.Result.{Result}
 use Rattle.std.specs.declared.result.Result.the-variants.{Ok, Err}
 use Rattle.std.specs.shelf.Lists.{All}
 use Rattle.text.specs.Decoded.{Is-frame, frames-in, Read, Decoded}
-use Rattle.text.specs.Spelling.{spelled}
+use Rattle.text.specs.Spelling.{spelled, Spells}
 use Rattle.text.specs.declared.decoding.Frames.{Frames}
 use Rattle.text.specs.declared.faults.TextFault.{TextFault}
 use Rattle.text.specs.declared.faults.TextFault.the-variants.{Memory}
 
+-- all frames can be spelled
+abbrev pub Spelling-serves : Type 0
+Spelling-serves = (fs : List (List ℕ)) → Spells (spelled fs) fs
+
 -- frames that are spelled alike are the same
 abbrev pub Spelling-tells : Type 0
-Spelling-tells = (fs gs : List (List ℕ)) → All Is-frame fs → All Is-frame gs → spelled fs ≡ spelled gs → fs ≡ gs
+Spelling-tells = (text : List ℕ) (fs gs : List (List ℕ)) → All Is-frame fs → All Is-frame gs → Spells text fs → Spells text gs → fs ≡ gs
 
--- the spelling of frames is read to its end, and gives these frames
+-- a text that spells frames is read to its end, and gives these frames
 abbrev pub Spelled-is-read : Type 0
-Spelled-is-read = (fs : List (List ℕ)) → All Is-frame fs → (out : Frames) → Read (spelled fs) out → (frames-in out ≡ fs) × (out .end ≡ Ok tt)
+Spelled-is-read = (text : List ℕ) (fs : List (List ℕ)) → All Is-frame fs → Spells text fs → (out : Frames) → Read text out → (frames-in out ≡ fs) × (out .end ≡ Ok tt)
 
--- a text that is read to its end is the spelling of what came out
+-- a text that is read to its end spells what came out
 abbrev pub Read-is-spelled : Type 0
-Read-is-spelled = (text : List ℕ) (out : Frames) → Read text out → isOk (out .end) ≡ true → text ≡ spelled (frames-in out)
+Read-is-spelled = (text : List ℕ) (out : Frames) → Read text out → isOk (out .end) ≡ true → Spells text (frames-in out)
 
 -- two answers say the same
 abbrev pub Same : Result Frames TextFault → Result Frames TextFault → Type 0

@@ -1,9 +1,10 @@
 // Theorems on spelling and reading; each stands as the promise of a function that does nothing.
-ghost use Rattle.text.specs.Laws.{Spelling-tells, Spelled-is-read, Read-is-spelled, One-answer};
+ghost use Rattle.text.specs.Laws.{Spelling-serves, Spelling-tells, Spelled-is-read, Read-is-spelled, One-answer};
 
-// No text is the spelling of two lists of frames.
+// Every list of frames has a spelling, and no text spells two of them.
 pub fn spelling_stands()
-    ensures { λ _. ⌜ Spelling-tells ⌝ }
+    ensures some { λ _. ⌜ Spelling-serves ⌝ }
+    ensures tells { λ _. ⌜ Spelling-tells ⌝ }
 {}
 
 // Reading gives back the frames that were spelled, and no other text is read to its end.

@@ -1,0 +1,5 @@
+pub mod Rowing
+pub mod Numbers
+pub mod Ancestry
+pub mod Turns
+pub mod Reach

@@ -16,8 +16,8 @@ use Rattle.lists.specs.Rows.{Rows, put}
 use Rattle.lists.proofs.Tables.{rows-same}
 use Rattle.search.specs.declared.arcs.Arc.{Arc}
 use Rattle.model.specs.declared.numbers.Ends.{Ends}
-use Rattle.model.specs.Meaning.{tailOf, headOf, pair-of}
-use Rattle.std.proofs.shelf.Lists.{length-map, getD-map}
+use Rattle.model.specs.Meaning.{tailOf, headOf, pair-of, ends-from}
+use Rattle.std.proofs.shelf.Lists.{length-map}
 use Rattle.search.specs.Joined.{add, arc, arcs-of, Joins}
 
 pub put-add : {T : Type 0} (rows : ℕ → List T) (k : ℕ) (x : T) (v : ℕ) → put rows k (x ∷ rows k) v ≡ add rows k x v
@@ -32,10 +32,12 @@ add-rows cs ls rows k x r = rows-same cs ls _ _ (put-add rows k x) r
 pub arcs-more : (cs : List (Cell Arc)) (ls : List Chain) (G : List (ℕ × ℕ)) (i : ℕ) → Rows cs ls (arcs-of G (suc i)) → Rows cs ls (arcs-of G (i + 1))
 arcs-more cs ls G i r = subst (λ (t : ℕ). Rows cs ls (arcs-of G t)) (sym (add-one i)) r
 
--- what the two pushes of a turn do
-pub turn : (cs cs₁ cs₂ : List (Cell Arc)) (ls ls₁ ls₂ : List Chain) (G : List (ℕ × ℕ)) (i : ℕ) → ((rows : ℕ → List Arc) → Rows cs ls rows → Rows cs₁ ls₁ (put rows (tailOf G i) (arc i (headOf G i) ∷ rows (tailOf G i)))) → ((rows : ℕ → List Arc) → Rows cs₁ ls₁ rows → Rows cs₂ ls₂ (put rows (headOf G i) (arc i (tailOf G i) ∷ rows (headOf G i)))) → Rows cs ls (arcs-of G i) → Rows cs₂ ls₂ (arcs-of G (i + 1))
-turn cs cs₁ cs₂ ls ls₁ ls₂ G i one two r =
-    arcs-more cs₂ ls₂ G i (add-rows cs₂ ls₂ _ _ _ (two _ (add-rows cs₁ ls₁ (arcs-of G i) _ _ (one (arcs-of G i) r))))
+-- what the two pushes of a turn do, p being the ends of link i
+pub turn : (cs cs₁ cs₂ : List (Cell Arc)) (ls ls₁ ls₂ : List Chain) (G : List (ℕ × ℕ)) (i : ℕ) (p : ℕ × ℕ) → getD G i (0, 0) ≡ p → ((rows : ℕ → List Arc) → Rows cs ls rows → Rows cs₁ ls₁ (put rows (p .0) (arc i (p .1) ∷ rows (p .0)))) → ((rows : ℕ → List Arc) → Rows cs₁ ls₁ rows → Rows cs₂ ls₂ (put rows (p .1) (arc i (p .0) ∷ rows (p .1)))) → Rows cs ls (arcs-of G i) → Rows cs₂ ls₂ (arcs-of G (i + 1))
+turn cs cs₁ cs₂ ls ls₁ ls₂ G i p e one two r =
+    arcs-more cs₂ ls₂ G i
+    (subst (λ (q : ℕ × ℕ). Rows cs₂ ls₂ (add (add (arcs-of G i) (q .0) (arc i (q .1))) (q .1) (arc i (q .0)))) (sym e)
+    (add-rows cs₂ ls₂ _ _ _ (two _ (add-rows cs₁ ls₁ (arcs-of G i) _ _ (one (arcs-of G i) r)))))
 
 abbrev pub In : Arc → List Arc → Type 0
 In a [] = ⊥
@@ -108,5 +110,7 @@ pub rows-count : (cs : List (Cell Arc)) (ls : List Chain) (es : List Ends) → R
 rows-count cs ls es r = subst (λ (t : ℕ). Rows cs ls (arcs-of (map pair-of es) t)) (sym (length-map es pair-of)) r
 
 -- what the code reads at i is the pair at i
-pub pair-at : (es : List Ends) (i : ℕ) (e : Ends) → i < length es → e ≡ getD es i e → getD (map pair-of es) i (0, 0) ≡ pair-of e
-pair-at es i e lt q = getD-map pair-of es i e (0, 0) lt ∙ ap pair-of (sym q)
+pub pair-at : (es : List Ends) (i : ℕ) → getD (map pair-of es) i (0, 0) ≡ pair-of (getD es i (ends-from (0, 0)))
+pair-at [] i = refl
+pair-at (e ∷ es) zero = refl
+pair-at (e ∷ es) (suc i) = pair-at es i

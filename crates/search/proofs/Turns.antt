@@ -205,6 +205,10 @@ inv-visited G root ns ns′ vs vs′ rows at l w m ev en em known forth above lw
     (subst (λ (t : List (Option ℕ)). Inv G root t (vs ++ visited w at l ∷ []) rows m) (sym en)
     (inv-visit G root ns vs rows at l w m em known forth above lw fresh jn i))
 
+-- the first visit is of the root
+pub starts : (root : ℕ) (vs ws : List Visit) → ws ≡ [] → vs ≡ ws ++ visited root 0 0 ∷ [] → stepOf vs 0 ≡ root
+starts root vs ws ew ev = ap (λ (t : List Visit). stepOf t 0) (ev ∙ ap (λ (t : List Visit). t ++ visited root 0 0 ∷ []) ew)
+
 -- the first turn
 pub inv-start : (G : List (ℕ × ℕ)) (root : ℕ) (ns : List (Option ℕ)) (vs ws : List Visit) (rows : ℕ → List Arc) (at : ℕ) → ws ≡ [] → vs ≡ ws ++ visited root 0 0 ∷ [] → at ≡ length ws → Known ns vs → ((v : ℕ) (a : Arc) → In a (rows v) → Joins G (a .link .0) v (a .to .0)) → ((l u v : ℕ) → Joins G l u v → In (arc l v) (rows u)) → Inv G root ns vs rows at
 inv-start G root ns vs ws rows at ew ev et known arcs whole =
@@ -311,7 +315,7 @@ pub turn-visit : (G : List (ℕ × ℕ)) (root : ℕ) (ns ns′ : List (Option �
 turn-visit G root ns ns′ vs vs′ rows at m h a ev en em known forth above lt fresh eh e i =
     let q = here-is vs at h (i .here) eh in
     let j : Joins G (a .link .0) (stepOf vs at) (a .to .0) =
-        subst (λ (t : Visit). Joins G (a .link .0) (t .step .0) (a .to .0)) (sym q) (arc-joins G root ns vs rows at (h .step .0) a e i) in
+    subst (λ (t : Visit). Joins G (a .link .0) (t .step .0) (a .to .0)) (sym q) (arc-joins G root ns vs rows at (h .step .0) a e i) in
     inv-pop G root ns′ vs′ rows m (h .step .0) a (rest (rows (h .step .0))) (top-some a (rows (h .step .0)) e)
     (ap isSome (ap (λ (t : List (Option ℕ)). getD t (a .to .0) None) en ∙ getD-set-same ns (a .to .0) (Some m) None lt))
     (inv-visited G root ns ns′ vs vs′ rows at (a .link .0) (a .to .0) m ev en em known forth above lt fresh j i)

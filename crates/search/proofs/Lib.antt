@@ -3,3 +3,4 @@ pub mod Numbers
 pub mod Ancestry
 pub mod Turns
 pub mod Reach
+pub mod Copying

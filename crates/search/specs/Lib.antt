@@ -1,3 +1,4 @@
 pub mod Joined
 pub mod Numbered
 pub mod Spans
+pub mod Copied

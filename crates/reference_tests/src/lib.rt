@@ -1,0 +1,3 @@
+// What the reference finds in plans that were worked out by hand.
+#[cfg(test)]
+mod tests;

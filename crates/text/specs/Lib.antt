@@ -1,0 +1,5 @@
+pub mod Decoded
+pub mod Digit
+pub mod Line
+pub mod Refused
+pub mod Spelling

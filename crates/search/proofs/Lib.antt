@@ -4,3 +4,6 @@ pub mod Ancestry
 pub mod Turns
 pub mod Reach
 pub mod Copying
+pub mod Ordering
+pub mod Turned
+pub mod Shaping

@@ -1,13 +1,15 @@
 -- The turns of the loops, over plain lists.
-use mathlib.Core.Path.{_≡_, sym, ap, _∙_}
+use mathlib.Core.Path.{_≡_, sym, ap, subst, _∙_}
 use mathlib.Core.List.{List, [], _∷_, _++_, append-assoc}
 use Prim.Native.Nat.{ℕ, _+_, _-_, _*_, _<_, _≤_}
 use native.Mathlib.Omega.{arith}
 use lib.Dec.{eqb}
 use lib.ListN.{length, getD, take}
+use Rattle.std.proofs.shelf.Elements.{all-push}
 use Rattle.std.proofs.shelf.Lists.{take-all, take-more, joined-more, length-take-le}
 use Rattle.std.proofs.shelf.Sums.{countBy-le-length, countBy-more-yes, countBy-more-no}
 use Rattle.std.proofs.shelf.Tests.{eq-eqb, ne-eqb}
+use Rattle.std.specs.shelf.Lists.{All}
 use Rattle.text.specs.Decoded.{line-feeds}
 use Rattle.text.specs.Spelling.{hex-pair, digits-of}
 
@@ -25,11 +27,20 @@ feeds-below text n e other =
     let few = countBy-le-length (λ b. eqb b 10) (take n text) in
     omega (arith, whole, feeds-no text n h other, few, length-take-le n text (omega arith))
 
--- two digits more, one byte more
-pub pair-more : (bytes ds : List ℕ) (k b : ℕ) → 2 * k + 1 < length ds → digits-of bytes ≡ take (2 * k) ds → hex-pair b ≡ getD ds (2 * k) 0 ∷ getD ds (2 * k + 1) 0 ∷ [] → digits-of (bytes ++ b ∷ []) ≡ take (2 * (k + 1)) ds
-pair-more bytes ds k b h e p =
+pairs-more : (bytes ds : List ℕ) (k b : ℕ) → 2 * k + 1 < length ds → digits-of bytes ≡ take (2 * k) ds → hex-pair b ≡ getD ds (2 * k) 0 ∷ getD ds (2 * k + 1) 0 ∷ [] → digits-of (bytes ++ b ∷ []) ≡ take (2 * (k + 1)) ds
+pairs-more bytes ds k b h e p =
     let n : 2 * (k + 1) ≡ 2 * k + 1 + 1 = omega arith in
     sym (joined-more hex-pair [] bytes b) ∙ ap (λ xs. xs ++ hex-pair b) e ∙ ap (λ xs. take (2 * k) ds ++ xs) p
     ∙ sym (append-assoc (take (2 * k) ds) (getD ds (2 * k) 0 ∷ []) (getD ds (2 * k + 1) 0 ∷ []))
     ∙ ap (λ xs. xs ++ getD ds (2 * k + 1) 0 ∷ []) (sym (take-more ds (2 * k) 0 (omega arith)))
     ∙ sym (take-more ds (2 * k + 1) 0 h) ∙ ap (λ i. take i ds) (sym n)
+
+-- the first k pairs of digits spell the bytes
+abbrev pub Pairs : List ℕ → List ℕ → ℕ → Type 0
+Pairs bytes ds k = (digits-of bytes ≡ take (2 * k) ds) × All (λ b. b < 256) bytes
+
+-- two digits more, one byte more
+pub pair-more : (kind : ℕ) (fields fields′ ds : List ℕ) (k b : ℕ) → Pairs (kind ∷ fields) ds k → fields′ ≡ fields ++ b ∷ [] → b < 256 → 2 * k + 1 < length ds → hex-pair b ≡ getD ds (2 * k) 0 ∷ getD ds (2 * k + 1) 0 ∷ [] → Pairs (kind ∷ fields′) ds (k + 1)
+pair-more kind fields fields′ ds k b p e small h pair =
+    subst (λ (xs : List ℕ). Pairs (kind ∷ xs) ds (k + 1)) (sym e)
+    (pairs-more (kind ∷ fields) ds k b h (p .0) pair, all-push (λ b. b < 256) (kind ∷ fields) b (p .1) small)

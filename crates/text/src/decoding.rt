@@ -3,7 +3,7 @@ ghost use mathlib.Core.Path.{_≡_};
 ghost use Prim.Native.Nat.{_≤_};
 ghost use lib.ListN.{length};
 ghost use Rattle.std.specs.Results.{Cases};
-ghost use Rattle.text.specs.Decoded.{line-feeds, Ended, Whole-fault};
+ghost use Rattle.text.specs.Decoded.{line-feeds, Ended, Whole-fault, Decoded};
 use crate::faults::TextFault;
 use crate::faults::TextFaultDebug;
 use crate::faults::TextFromAlloc;
@@ -53,7 +53,9 @@ fn check_whole(text: &[u8]) -> Result<(), TextFault>
 }
 
 // A fault of the whole text is the error; a fault of a line stands at the end of the frames before it.
-pub fn decode(text: &[u8], heap: Global) -> Result<Frames, TextFault> {
+pub fn decode(text: &[u8], heap: Global) -> Result<Frames, TextFault>
+    ensures { λ r. ⌜ Decoded (now (text .entry)) r ⌝ }
+{
     check_whole(text)?;
     let mut frames = Vec::new(heap);
     let mut rest = text;

@@ -265,7 +265,7 @@ const DIGITS: [u8; 256] = [
 ];
 
 // The table's entry for a byte.
-pub fn entry(b: u8) -> u8
+pub(crate) fn entry(b: u8) -> u8
     ensures { λ r. ⌜ r ≡ entry-of b ⌝ }
 {
     DIGITS[b as usize]

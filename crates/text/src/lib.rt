@@ -2,6 +2,7 @@
 pub mod decoding;
 pub mod digits;
 pub mod faults;
+pub mod laws;
 pub mod lines;
 
 pub use decoding::Frames;

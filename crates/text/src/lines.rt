@@ -1,8 +1,8 @@
 // One line of a text: what may be wrong with it, and the frame that it spells.
 ghost use mathlib.Core.Path.{_≡_};
-ghost use Prim.Native.Nat.{ℕ, _+_, _-_, _<_, _≤_};
+ghost use Prim.Native.Nat.{ℕ, _<_, _≤_};
 ghost use mathlib.Core.List.{[], _∷_};
-ghost use mathlib.Core.Bool.{true, false};
+ghost use mathlib.Core.Bool.{true};
 ghost use lib.ListN.{length, getD};
 ghost use Rattle.std.specs.Options.{isSome, Cases as BySome};
 ghost use Rattle.std.specs.Results.{Cases};
@@ -17,7 +17,7 @@ use crate::faults::TextFault;
 use std::alloc::AllocError;
 use std::alloc::Global;
 
-pub const LINE_FEED: u8 = 10;
+pub(crate) const LINE_FEED: u8 = 10;
 
 // What one line spells: the kind byte and the bytes after it.
 #[derive(Debug, Drop)]
@@ -28,7 +28,7 @@ pub struct Frame {
 }
 
 // Where the first line feed stands.
-pub fn line_feed(text: &[u8]) -> Option<usize>
+pub(crate) fn line_feed(text: &[u8]) -> Option<usize>
     ensures { λ r. ⌜ BySome r ((k : ℕ) → k < length (now (text .entry)) → getD (now (text .entry)) k 0 ≡ 10 → ⊥) (λ i. (i < length (now (text .entry))) × (getD (now (text .entry)) i 0 ≡ 10) × ((k : ℕ) → k < i → getD (now (text .entry)) k 0 ≡ 10 → ⊥)) ⌝ }
 {
     for (i, b) in text.iter().enumerate() {
@@ -52,7 +52,7 @@ fn no_digit(bytes: &[u8]) -> Option<usize>
 }
 
 // Whether the bytes of a line spell a frame.
-pub fn check_line(bytes: &[u8], line: u16) -> Result<(), TextFault>
+pub(crate) fn check_line(bytes: &[u8], line: u16) -> Result<(), TextFault>
     requires { ⌜ length (now bytes) ≤ 65535 ⌝ }
     ensures { λ r. ⌜ Cases r (λ _. Good-line (now (bytes .entry))) (λ e. Line-fault line (now (bytes .entry)) e) ⌝ }
 {
@@ -78,7 +78,7 @@ fn byte(high: u8, low: u8) -> u8
 }
 
 // The frame that a good line spells.
-pub fn frame_of(digits: &[u8], line: u16, heap: Global) -> Result<Frame, AllocError>
+pub(crate) fn frame_of(digits: &[u8], line: u16, heap: Global) -> Result<Frame, AllocError>
     requires { ⌜ Good-line (now digits) ⌝ }
     ensures { λ r. ⌜ made r (λ f. Spelt line (now (digits .entry)) f) ⌝ }
 {

@@ -1,25 +1,16 @@
-use mathlib.Core.Path.{_∙_, ap, refl, subst, sym}
-use mathlib.Core.List.{List, _∷_}
-use Prim.Native.Nat.{ℕ, _*_, _<_}
+use mathlib.Core.Path.{_∙_, refl}
+use Prim.Native.Nat.{_*_}
 use borrow.Author.Needs.{needs}
 use native.Mathlib.Omega.{arith}
-use Rattle.std.proofs.shelf.Elements.{all-push}
 use Rattle.std.proofs.shelf.Lists.{take-all}
 use Rattle.std.specs.Of.Vec.{vec-items}
-use Rattle.std.specs.shelf.Lists.{All}
-use Rattle.text.specs.Spelling.{digits-of}
 use Rattle.text.proofs.Steps.{pair-more}
 use Rattle.text.proofs.lines.frame_of.Needs as need
 
 pub loop-k-again : need.loop-k-again
 loop-k-again c =
-    let kind = c .byte-kind .result in
-    let bytes = kind ∷ vec-items (c .loop-k .fields) in
-    let b = c .byte .result in
-    let items = c .in-Continue-push .ensures tt .items in (
-      ap (λ xs. digits-of (kind ∷ xs)) items ∙ pair-more bytes (c .args .digits .now) (c .loop-k .k) b (omega arith) (c .loop-k .inv .0) (c .byte .ensures),
-      subst (λ (xs : List ℕ). All (λ b. b < 256) (kind ∷ xs)) (sym items) (all-push (λ b. b < 256) bytes b (c .loop-k .inv .1) (search needs)),
-    )
+    pair-more (c .byte-kind .result) (vec-items (c .loop-k .fields)) (vec-items (c .push .last .self)) (c .args .digits .now) (c .loop-k .k) (c .byte .result)
+    (c .loop-k .inv) (c .in-Continue-push .ensures tt .items) (search needs) (omega arith) (c .byte .ensures)
 
 pub returns : need.returns
 returns c = record {

@@ -2,7 +2,7 @@ pub mod Rowing
 pub mod Numbers
 pub mod Ancestry
 pub mod Turns
-pub mod Reach
+pub mod Closing
 pub mod Copying
 pub mod Ordering
 pub mod Turned

@@ -7,3 +7,4 @@ pub mod Copying
 pub mod Ordering
 pub mod Turned
 pub mod Shaping
+pub mod OneFault

@@ -2,6 +2,7 @@
 pub mod arcs;
 pub mod frontier;
 pub mod graphs;
+pub mod laws;
 pub mod orders;
 pub mod shapes;
 pub mod soundness;

@@ -12,16 +12,25 @@ use Rattle.std.specs.declared.option.Option.{Option}
 use Rattle.std.specs.declared.option.Option.the-variants.{None, Some}
 use Rattle.theory.specs.Each.{Each, EachSome}
 
--- an element x that was read at k
+-- an element x that was read at k, where P may go by the place
+pub each-read-at : {X : Type 0} (P : ℕ → X → Type 0) (d : X) (xs : List X) (k : ℕ) (x : X) → ((j : ℕ) → j < length xs → P j (getD xs j d)) → k < length xs → x ≡ getD xs k x → P k x
+each-read-at P d xs k x all lt e = subst (P k) (sym (e ∙ getD-default xs k x d lt)) (all k lt)
+
 pub each-read : {X : Type 0} (P : X → Type 0) (d : X) (xs : List X) (k : ℕ) (x : X) → Each P d xs → k < length xs → x ≡ getD xs k x → P x
-each-read P d xs k x all lt e = subst P (sym (e ∙ getD-default xs k x d lt)) (all k lt)
+each-read P = each-read-at (λ _. P)
+
+-- one element more, where P may go by the place
+pub each-push-at : {X : Type 0} (P : ℕ → X → Type 0) (d : X) (xs : List X) (x : X) → ((k : ℕ) → k < length xs → P k (getD xs k d)) → P (length xs) x → (k : ℕ) → k < length (xs ++ x ∷ []) → P k (getD (xs ++ x ∷ []) k d)
+each-push-at P d xs x all p k lt = go (cases-lt k (length xs))
+  where
+    go : (k < length xs) ⊎ (length xs ≤ k) → P k (getD (xs ++ x ∷ []) k d)
+    go (inl h) = subst (P k) (sym (getD-append-left xs (x ∷ []) d k h)) (all k h)
+    go (inr h) =
+        let e : length xs ≡ k = omega (arith, length-push xs x) in
+        subst (P k) (sym (getD-push xs x d k e)) (subst (λ (j : ℕ). P j x) e p)
 
 pub each-push : {X : Type 0} (P : X → Type 0) (d : X) (xs : List X) (x : X) → Each P d xs → P x → Each P d (xs ++ x ∷ [])
-each-push P d xs x all p k lt = go (cases-lt k (length xs))
-  where
-    go : (k < length xs) ⊎ (length xs ≤ k) → P (getD (xs ++ x ∷ []) k d)
-    go (inl h) = subst P (sym (getD-append-left xs (x ∷ []) d k h)) (all k h)
-    go (inr h) = subst P (sym (getD-push xs x d k (omega (arith, length-push xs x)))) p
+each-push P = each-push-at (λ _. P)
 
 -- after a push, whether it found memory or not
 pub each-pushed : {X : Type 0} (P : X → Type 0) (d : X) (xs ys : List X) (x : X) (b : Bool) → ys ≡ cond b (xs ++ x ∷ []) xs → Each P d xs → P x → Each P d ys

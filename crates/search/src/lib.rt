@@ -1,6 +1,6 @@
 // Searches of a plan: its graph in arrays, the order of search, its soundness, and the depth-first tree.
-pub mod arcs;
-pub mod frontier;
+mod arcs;
+mod frontier;
 pub mod graphs;
 pub mod laws;
 pub mod orders;

@@ -1,4 +1,7 @@
 pub mod Makes
 pub mod Table
-pub mod Drafts
 pub mod Refused
+pub mod Writing
+pub mod Checks
+pub mod Drafts
+pub mod Reading

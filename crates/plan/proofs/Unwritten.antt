@@ -30,13 +30,13 @@ step-same One Every e = let z : _≡_ {A = ℕ} 0 1 = cc in absurd (omega arith)
 step-same Every One e = let z : _≡_ {A = ℕ} 1 0 = cc in absurd (omega arith)
 step-same Every Every e = refl
 
+pair-same : (p q : ℕ × ℕ) → (p .0 ≡ q .0) × (p .1 ≡ q .1) → p ≡ q
+pair-same p q e = ap (λ n. (n, p .1)) (e .0) ∙ ap (λ n. (q .0, n)) (e .1)
+
 link-same : (p q : ℕ × ℕ) → link-frame p ≡ link-frame q → p ≡ q
 link-same p q e =
     let numbers : two-numbers (p .0) (p .1) ≡ two-numbers (q .0) (q .1) = cc in
-    let w = two-same (p .0) (p .1) (q .0) (q .1) numbers in
-    let tail : p .0 ≡ q .0 = w .0 in
-    let head : p .1 ≡ q .1 = w .1 in
-    cc
+    pair-same p q (two-same (p .0) (p .1) (q .0) (q .1) numbers)
 
 no-step-link : (l : Logic) (p : ℕ × ℕ) → step-frame l ≡ link-frame p → ⊥
 no-step-link l p e = let z : _≡_ {A = ℕ} 0x10 0x20 = cc in omega arith

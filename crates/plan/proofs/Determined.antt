@@ -17,7 +17,8 @@ use Rattle.text.specs.declared.decoding.Frames.{Frames}
 use Rattle.text.specs.declared.faults.TextFault.{TextFault}
 use Rattle.text.specs.declared.faults.TextFault.the-variants.{TooLong, NoLineFeed, EmptyLine, NoDigit, OddDigits, Memory as Text-memory}
 use Rattle.plan.specs.Checks.{Bounded, Begins, Completes, Unfinished, end-faults}
-use Rattle.plan.specs.Reading.{Stray, Cut-short, Unmade, Fault-in, Refused, Reading, No-memory, Gives-back, One-reading, Written-is-read}
+use Rattle.plan.specs.Laws.{Writing-tells, Written-is-read, One-reading}
+use Rattle.plan.specs.Reading.{Stray, Cut-short, Unmade, Fault-in, Refused, Reading, Gives-back}
 use Rattle.plan.specs.Refused.{plan-refusal}
 use Rattle.plan.specs.Writing.{head-frame, frames-of}
 use Rattle.plan.specs.declared.faults.PlanFault.{PlanFault}
@@ -29,6 +30,9 @@ use Rattle.plan.proofs.Unwritten.{one-meaning, all-frames}
 -- a plan keeps the bounds of a table in the making
 bounded : (μ : Meaning) → Limits μ → Bounded μ
 bounded μ h = record { few-steps = h .few-steps; few-links = h .few-links; ends-below = h .ends-below; logic-each = h .logic-each }
+
+pub writing-tells : Writing-tells
+writing-tells μ ν hμ hν e = one-meaning μ ν (bounded μ hμ) (bounded ν hν) e
 
 never : (t : TextFault) (end : Result (Unit {0}) TextFault) → end ≡ Ok tt → end ≡ Err t → ⊥
 never t end p q = let z : _≡_ {A = ℕ} 0 1 = cc in omega arith
@@ -94,7 +98,7 @@ not-refused text μ e h short spells =
 
 pub written-is-read : Written-is-read
 written-is-read text before after (Ok x) reads μ h short spells =
-    one-meaning after μ (bounded after (reads .1)) (bounded μ h) (spelling-tells text (frames-of after) (frames-of μ) (all-frames after (reads .1)) (all-frames μ h) (reads .2) spells)
+    writing-tells after μ (reads .1) h (spelling-tells text (frames-of after) (frames-of μ) (all-frames after (reads .1)) (all-frames μ h) (reads .2) spells)
 written-is-read text before after (Err e) reads μ h short spells = not-refused text μ e h short spells (reads .1)
 
 -- what is told of a text that is turned away is one

@@ -68,11 +68,3 @@ No-memory r = Cases r (λ _. ⊥) (λ e. plan-refusal e ≡ None)
 -- what was written is given back, where memory does not fail
 abbrev pub Gives-back : List ℕ → Result (Unit {0}) PlanFault → Meaning → Type 0
 Gives-back text r after = (μ : Meaning) → Limits μ → length text ≤ 65535 → Spells text (frames-of μ) → Cases r (λ _. after ≡ μ) (λ e. plan-refusal e ≡ None)
-
--- where memory does not fail, a text has one answer, and leaves one meaning
-abbrev pub One-reading : Type 0
-One-reading = (text : List ℕ) (before after after′ : Meaning) (q r : Result (Unit {0}) PlanFault) → Reading text before q after → Reading text before r after′ → (No-memory q → ⊥) → (No-memory r → ⊥) → (q ≡ r) × (after ≡ after′)
-
--- a text that writes a table has no other answer
-abbrev pub Written-is-read : Type 0
-Written-is-read = (text : List ℕ) (before after : Meaning) (r : Result (Unit {0}) PlanFault) → Reading text before r after → Gives-back text r after

@@ -1,9 +1,10 @@
 // A table in the making: what the frames so far have told.
 ghost use mathlib.Core.Path.{_≡_};
 ghost use mathlib.Core.List.{[], _∷_};
-ghost use lib.Dec.{ltb};
+ghost use Prim.Native.Nat.{_<_};
 ghost use lib.ListN.{length};
 ghost use Rattle.std.specs.Of.Vec.{vec-items};
+ghost use Rattle.std.specs.Orderings.{When};
 ghost use Rattle.std.specs.declared.option.Option.the-variants.{None};
 ghost use Rattle.plan.specs.Drafts.{Kept, told-by, Takes, Finishes, Two-steps, Step-logic};
 ghost use Rattle.plan.specs.Writing.{two-bytes};
@@ -90,7 +91,7 @@ impl Draft {
         }
     }
 
-    // Takes the next frame, or tells what is wrong with it.
+    // Takes the next frame, or tells what is wrong with it; the checks stand in the order of their numbers.
     pub(crate) fn take(&mut self, frame: &Frame) -> Result<(), PlanFault>
         requires { ⌜ Kept (now self) ⌝ }
         ensures { λ r. ⌜ Takes (now (self .entry)) (now (frame .entry)) r (now (self .exit)) ⌝ }
@@ -140,10 +141,7 @@ impl Draft {
         if self.links.len() >= MOST_LINKS {
             return Err(PlanFault::TooManyLinks { line: frame.line });
         }
-        if !self.has_step(tail) {
-            return Err(PlanFault::NoStep { line: frame.line });
-        }
-        if !self.has_step(head) {
+        if !self.has_steps(tail, head) {
             return Err(PlanFault::NoStep { line: frame.line });
         }
         self.links.push(Ends { tail, head })?;
@@ -151,10 +149,12 @@ impl Draft {
         Ok(())
     }
 
-    fn has_step(&self, step: StepNo) -> bool
-        ensures { λ r. ⌜ r ≡ ltb (step .0) (length (vec-items (now (self .entry) .logics))) ⌝ }
+    // Whether both are steps that were told.
+    fn has_steps(&self, a: StepNo, b: StepNo) -> bool
+        ensures { λ r. ⌜ When r ((a .0 < length (vec-items (now (self .entry) .logics))) × (b .0 < length (vec-items (now (self .entry) .logics)))) ((a .0 < length (vec-items (now (self .entry) .logics))) × (b .0 < length (vec-items (now (self .entry) .logics))) → ⊥) ⌝ }
     {
-        (step.0 as usize) < self.logics.len()
+        let count = self.logics.len();
+        (a.0 as usize) < count && (b.0 as usize) < count
     }
 
     // The table, if all that it needs was told; `line` is the last line of the text.
@@ -168,10 +168,7 @@ impl Draft {
         if self.links.is_empty() {
             return Err(PlanFault::Incomplete { line });
         }
-        if !self.has_step(self.first) {
-            return Err(PlanFault::BadEnds);
-        }
-        if !self.has_step(self.last) {
+        if !self.has_steps(self.first, self.last) {
             return Err(PlanFault::BadEnds);
         }
         if self.first.0 == self.last.0 {

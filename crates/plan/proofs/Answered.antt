@@ -12,6 +12,7 @@ use Rattle.std.specs.declared.option.Option.the-variants.{None, Some}
 use Rattle.std.specs.Options.{mapped}
 use Rattle.model.specs.declared.numbers.Ends.{Ends}
 use Rattle.model.specs.Meaning.{Meaning, pair-of, ends-from, ends-of}
+use Rattle.plan.specs.Laws.{Turned-twice}
 use Rattle.plan.specs.Makes.{swapped, turned, getD-swapped}
 
 getD-pairs : (xs : List Ends) (k : ℕ) → getD (map pair-of xs) k (0, 0) ≡ pair-of (getD xs k (ends-from (0, 0)))
@@ -34,3 +35,11 @@ pub turned-ends : (μ : Meaning) (k : ℕ) → mapped exchanged (ends-of μ k) �
 turned-ends μ k =
     let e = getD-swapped (μ .graph .links) k in
     mapped-cond exchanged (ltb k (length (μ .graph .links))) (ends-from (getD (μ .graph .links) k (0, 0))) ∙ rw (length-map, e)
+
+unswapped : (xs : List (ℕ × ℕ)) → map swapped (map swapped xs) ≡ xs
+unswapped [] = refl
+unswapped (x ∷ xs) = ap (λ ys. x ∷ ys) (unswapped xs)
+
+pub turned-twice : Turned-twice
+turned-twice μ =
+    ap (λ (links : List (ℕ × ℕ)). record { graph = record { steps = μ .graph .steps; links = links; first = μ .graph .first; last = μ .graph .last }; logics = μ .logics }) (unswapped (μ .graph .links))

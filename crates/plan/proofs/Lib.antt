@@ -1,2 +1,7 @@
 pub mod Answered
-pub mod Drafting
+pub mod Determined
+pub mod Drafted
+pub mod Ended
+pub mod Following
+pub mod Told
+pub mod Unwritten

@@ -1,4 +1,8 @@
-pub mod Makes
-pub mod Table
+pub mod Checks
 pub mod Drafts
+pub mod Laws
+pub mod Makes
+pub mod Reading
 pub mod Refused
+pub mod Table
+pub mod Writing

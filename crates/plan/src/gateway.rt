@@ -4,17 +4,14 @@ ghost use mathlib.Core.List.{map};
 ghost use Prim.Native.Nat.{_<_, _≤_};
 ghost use lib.ListN.{length};
 ghost use Rattle.std.specs.Of.Vec.{vec-items};
-ghost use Rattle.std.specs.Vec.{made};
 ghost use Rattle.model.specs.Meaning.{EndsBelow, pair-of};
-ghost use Rattle.plan.specs.Makes.{one-link, two-logics};
 use model::Ends;
 use model::Logic;
 use model::StepNo;
-use std::alloc::AllocError;
-use std::alloc::Global;
 
 pub mod as_plan;
 pub(crate) mod drafting;
+pub mod making;
 pub mod reading;
 
 #[derive(Drop)]
@@ -31,26 +28,4 @@ pub struct GatewayTable {
     ghost first_below: { first .0 < length (vec-items logics) },
     ghost last_below: { last .0 < length (vec-items logics) },
     ghost apart: { (first .0 ≡ last .0 → ⊥) },
-}
-
-impl GatewayTable {
-    // The smallest plan: one link from step 0 to step 1.
-    pub fn new(heap: Global) -> Result<GatewayTable, AllocError>
-        ensures { λ r. ⌜ made r (λ t. (vec-items (t .links) ≡ one-link) × (vec-items (t .logics) ≡ two-logics) × (t .first .0 ≡ 0) × (t .last .0 ≡ 1)) ⌝ }
-    {
-        let mut links = Vec::new(heap);
-        links.push(Ends {
-            tail: StepNo(0),
-            head: StepNo(1),
-        })?;
-        let mut logics = Vec::new(heap);
-        logics.push(Logic::One)?;
-        logics.push(Logic::One)?;
-        Ok(GatewayTable {
-            links,
-            logics,
-            first: StepNo(0),
-            last: StepNo(1),
-        })
-    }
 }

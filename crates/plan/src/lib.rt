@@ -2,6 +2,7 @@
 pub mod asking;
 pub mod faults;
 pub mod gateway;
+pub mod laws;
 pub mod turning;
 
 pub use asking::Plan;

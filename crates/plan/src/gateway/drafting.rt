@@ -1,10 +1,14 @@
 // A table in the making: what the frames so far have told.
 ghost use mathlib.Core.Path.{_≡_};
-ghost use lib.Dec.{ltb};
+ghost use mathlib.Core.List.{[], _∷_};
+ghost use Prim.Native.Nat.{_<_};
 ghost use lib.ListN.{length};
 ghost use Rattle.std.specs.Of.Vec.{vec-items};
-ghost use Rattle.std.specs.Vec.{made};
-ghost use Rattle.plan.specs.Drafts.{Bounded, draft-meaning};
+ghost use Rattle.std.specs.Orderings.{When};
+ghost use Rattle.std.specs.declared.option.Option.the-variants.{None};
+ghost use Rattle.plan.specs.Drafts.{Kept, told-by, Takes, Finishes, Two-steps, Step-logic};
+ghost use Rattle.plan.specs.Writing.{two-bytes};
+ghost use Rattle.plan.specs.declared.gateway.drafting.State.the-variants.{BeforeHead, Steps};
 use crate::faults::PlanFault;
 use crate::faults::PlanFromRefused;
 use crate::gateway::GatewayTable;
@@ -43,12 +47,16 @@ pub(crate) struct Draft {
 }
 
 // The number that two bytes tell, the high one first.
-fn number(high: u8, low: u8) -> u16 {
+fn number(high: u8, low: u8) -> u16
+    ensures { λ r. ⌜ two-bytes r ≡ high ∷ low ∷ [] ⌝ }
+{
     high as u16 * 256 + low as u16
 }
 
 // The two steps that a head or a link names.
-fn two_steps(frame: &Frame) -> Result<(StepNo, StepNo), PlanFault> {
+fn two_steps(frame: &Frame) -> Result<(StepNo, StepNo), PlanFault>
+    ensures { λ r. ⌜ Two-steps (now (frame .entry)) r ⌝ }
+{
     let line = frame.line;
     let [a, b, c, d] = frame.fields.as_slice() else {
         return Err(PlanFault::WrongLength { line });
@@ -57,7 +65,9 @@ fn two_steps(frame: &Frame) -> Result<(StepNo, StepNo), PlanFault> {
 }
 
 // The logic that a step has.
-fn step_logic(frame: &Frame) -> Result<Logic, PlanFault> {
+fn step_logic(frame: &Frame) -> Result<Logic, PlanFault>
+    ensures { λ r. ⌜ Step-logic (now (frame .entry)) r ⌝ }
+{
     let line = frame.line;
     match frame.fields.as_slice() {
         [0] => Ok(Logic::One),
@@ -69,7 +79,8 @@ fn step_logic(frame: &Frame) -> Result<Logic, PlanFault> {
 
 impl Draft {
     pub(crate) fn new(heap: Global) -> Draft
-        ensures { λ r. ⌜ Bounded (draft-meaning r) ⌝ }
+        ensures kept { λ r. ⌜ Kept r ⌝ }
+        ensures told { λ r. ⌜ told-by r ≡ None ⌝ }
     {
         Draft {
             state: State::BeforeHead,
@@ -80,10 +91,10 @@ impl Draft {
         }
     }
 
-    // Takes the next frame, or tells what is wrong with it.
+    // Takes the next frame, or tells what is wrong with it; the checks stand in the order of their numbers.
     pub(crate) fn take(&mut self, frame: &Frame) -> Result<(), PlanFault>
-        requires { ⌜ Bounded (draft-meaning (now self)) ⌝ }
-        ensures { λ r. ⌜ made r (λ _. Bounded (draft-meaning (now (self .exit)))) ⌝ }
+        requires { ⌜ Kept (now self) ⌝ }
+        ensures { λ r. ⌜ Takes (now (self .entry)) (now (frame .entry)) r (now (self .exit)) ⌝ }
     {
         match (self.state, frame.kind) {
             (State::BeforeHead, HEAD) => self.take_head(frame),
@@ -94,8 +105,10 @@ impl Draft {
     }
 
     fn take_head(&mut self, frame: &Frame) -> Result<(), PlanFault>
-        requires { ⌜ Bounded (draft-meaning (now self)) ⌝ }
-        ensures { λ r. ⌜ made r (λ _. Bounded (draft-meaning (now (self .exit)))) ⌝ }
+        requires kept { ⌜ Kept (now self) ⌝ }
+        requires state { ⌜ now self .state ≡ BeforeHead ⌝ }
+        requires kind { ⌜ now frame .kind ≡ 0x01 ⌝ }
+        ensures { λ r. ⌜ Takes (now (self .entry)) (now (frame .entry)) r (now (self .exit)) ⌝ }
     {
         let (first, last) = two_steps(frame)?;
         self.first = first;
@@ -105,8 +118,10 @@ impl Draft {
     }
 
     fn take_step(&mut self, frame: &Frame) -> Result<(), PlanFault>
-        requires { ⌜ Bounded (draft-meaning (now self)) ⌝ }
-        ensures { λ r. ⌜ made r (λ _. Bounded (draft-meaning (now (self .exit)))) ⌝ }
+        requires kept { ⌜ Kept (now self) ⌝ }
+        requires state { ⌜ now self .state ≡ Steps ⌝ }
+        requires kind { ⌜ now frame .kind ≡ 0x10 ⌝ }
+        ensures { λ r. ⌜ Takes (now (self .entry)) (now (frame .entry)) r (now (self .exit)) ⌝ }
     {
         let logic = step_logic(frame)?;
         if self.logics.len() >= MOST_STEPS {
@@ -117,17 +132,16 @@ impl Draft {
     }
 
     fn take_link(&mut self, frame: &Frame) -> Result<(), PlanFault>
-        requires { ⌜ Bounded (draft-meaning (now self)) ⌝ }
-        ensures { λ r. ⌜ made r (λ _. Bounded (draft-meaning (now (self .exit)))) ⌝ }
+        requires kept { ⌜ Kept (now self) ⌝ }
+        requires state { ⌜ (now self .state ≡ BeforeHead → ⊥) ⌝ }
+        requires kind { ⌜ now frame .kind ≡ 0x20 ⌝ }
+        ensures { λ r. ⌜ Takes (now (self .entry)) (now (frame .entry)) r (now (self .exit)) ⌝ }
     {
         let (tail, head) = two_steps(frame)?;
         if self.links.len() >= MOST_LINKS {
             return Err(PlanFault::TooManyLinks { line: frame.line });
         }
-        if !self.has_step(tail) {
-            return Err(PlanFault::NoStep { line: frame.line });
-        }
-        if !self.has_step(head) {
+        if !self.has_steps(tail, head) {
             return Err(PlanFault::NoStep { line: frame.line });
         }
         self.links.push(Ends { tail, head })?;
@@ -135,15 +149,18 @@ impl Draft {
         Ok(())
     }
 
-    fn has_step(&self, step: StepNo) -> bool
-        ensures { λ r. ⌜ r ≡ ltb (step .0) (length (vec-items (now (self .entry) .logics))) ⌝ }
+    // Whether both are steps that were told.
+    fn has_steps(&self, a: StepNo, b: StepNo) -> bool
+        ensures { λ r. ⌜ When r ((a .0 < length (vec-items (now (self .entry) .logics))) × (b .0 < length (vec-items (now (self .entry) .logics)))) ((a .0 < length (vec-items (now (self .entry) .logics))) × (b .0 < length (vec-items (now (self .entry) .logics))) → ⊥) ⌝ }
     {
-        (step.0 as usize) < self.logics.len()
+        let count = self.logics.len();
+        (a.0 as usize) < count && (b.0 as usize) < count
     }
 
     // The table, if all that it needs was told; `line` is the last line of the text.
     pub(crate) fn finish(self, line: u16) -> Result<GatewayTable, PlanFault>
-        requires { ⌜ Bounded (draft-meaning self) ⌝ }
+        requires { ⌜ Kept self ⌝ }
+        ensures { λ r. ⌜ Finishes self line r ⌝ }
     {
         if self.logics.len() < 2 {
             return Err(PlanFault::Incomplete { line });
@@ -151,10 +168,7 @@ impl Draft {
         if self.links.is_empty() {
             return Err(PlanFault::Incomplete { line });
         }
-        if !self.has_step(self.first) {
-            return Err(PlanFault::BadEnds);
-        }
-        if !self.has_step(self.last) {
+        if !self.has_steps(self.first, self.last) {
             return Err(PlanFault::BadEnds);
         }
         if self.first.0 == self.last.0 {

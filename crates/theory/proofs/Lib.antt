@@ -1,1 +1,14 @@
 pub mod Elements
+pub mod Walks
+pub mod Reach
+pub mod Decide
+pub mod Cuts
+pub mod Cutting
+pub mod Sides
+pub mod Nesting
+pub mod Plans
+pub mod Lines
+pub mod Counting
+pub mod Insides
+pub mod Orders
+pub mod Plain

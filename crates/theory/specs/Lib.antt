@@ -1,1 +1,5 @@
 pub mod Each
+pub mod Tests
+pub mod Cuts
+pub mod Orders
+pub mod Insides

@@ -12,3 +12,8 @@ pub mod Counting
 pub mod Insides
 pub mod Orders
 pub mod Plain
+pub mod Tells
+pub mod Parts
+pub mod Unique
+pub mod Belows
+pub mod Runs

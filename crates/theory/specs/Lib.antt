@@ -3,3 +3,4 @@ pub mod Tests
 pub mod Cuts
 pub mod Orders
 pub mod Insides
+pub mod Listings

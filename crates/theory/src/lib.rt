@@ -2,6 +2,7 @@
 ghost use Rattle.theory.specs.Cuts.{Reach-decided, Share-decided, Share-is-cut};
 ghost use Rattle.theory.specs.Orders.{Class-in-line, Leader-first, Fragments-neighbours};
 ghost use Rattle.theory.specs.Insides.{Inside-cut-off, Fragments-nest, Inside-tells, Plain-alone, Own-branches};
+ghost use Rattle.theory.specs.Listings.{One-listing, Below-by-parents, Parent-least, Runs-nest};
 
 // Whether a walk leads from a step to another without passing a link is computed.
 pub fn reaching_is_decided() -> u8
@@ -76,6 +77,34 @@ pub fn plain_steps_are_alone() -> u8
 // An own step that does not branch is all that its fragment has.
 pub fn own_steps_branch() -> u8
     ensures { λ _. ⌜ Own-branches ⌝ }
+{
+    0
+}
+
+// A sound plan has one listing.
+pub fn listings_are_one() -> u8
+    ensures { λ _. ⌜ One-listing ⌝ }
+{
+    0
+}
+
+// The rows below a row are those that its children, their children and so on stand for.
+pub fn rows_below_are_told_by_parents() -> u8
+    ensures { λ _. ⌜ Below-by-parents ⌝ }
+{
+    0
+}
+
+// The parent of a row lies in every other row that has all its steps.
+pub fn parents_are_least() -> u8
+    ensures { λ _. ⌜ Parent-least ⌝ }
+{
+    0
+}
+
+// Two runs of rows are apart, or one lies within the other.
+pub fn runs_nest() -> u8
+    ensures { λ _. ⌜ Runs-nest ⌝ }
 {
     0
 }

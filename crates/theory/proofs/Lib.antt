@@ -17,3 +17,6 @@ pub mod Parts
 pub mod Unique
 pub mod Belows
 pub mod Runs
+pub mod Kept
+pub mod Law
+pub mod Answers

@@ -4,3 +4,4 @@ pub mod Cuts
 pub mod Orders
 pub mod Insides
 pub mod Listings
+pub mod Calls

@@ -3,6 +3,7 @@ ghost use Rattle.theory.specs.Cuts.{Reach-decided, Share-decided, Share-is-cut
 ghost use Rattle.theory.specs.Orders.{Class-in-line, Leader-first, Fragments-neighbours};
 ghost use Rattle.theory.specs.Insides.{Inside-cut-off, Fragments-nest, Inside-tells, Plain-alone, Own-branches};
 ghost use Rattle.theory.specs.Listings.{One-listing, Below-by-parents, Parent-least, Runs-nest};
+ghost use Rattle.theory.specs.Calls.{Law-stands, One-answer};
 
 // Whether a walk leads from a step to another without passing a link is computed.
 pub fn reaching_is_decided() -> u8
@@ -105,6 +106,20 @@ pub fn parents_are_least() -> u8
 // Two runs of rows are apart, or one lies within the other.
 pub fn runs_nest() -> u8
     ensures { λ _. ⌜ Runs-nest ⌝ }
+{
+    0
+}
+
+// Every list of calls on a book that is opened over a sound plan follows the law.
+pub fn law_stands() -> u8
+    ensures { λ _. ⌜ Law-stands ⌝ }
+{
+    0
+}
+
+// The law leaves one answer to each call.
+pub fn answers_are_one() -> u8
+    ensures { λ _. ⌜ One-answer ⌝ }
 {
     0
 }

@@ -1,0 +1,5 @@
+pub mod Checks
+pub mod Listed
+pub mod Calling
+pub mod Sampled
+pub mod Opens

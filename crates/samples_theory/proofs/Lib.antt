@@ -3,3 +3,4 @@ pub mod Listed
 pub mod Calling
 pub mod Sampled
 pub mod Opens
+pub mod Second

@@ -116,7 +116,7 @@ module _ (g : Graph) (sound : Sound g) where
   some-step whole c = (g .first, sound .begins)
   some-step (fragment a b) c = (headOf (g .links) a, ∣ ([], refl, λ p. p) ∣₁)
 
-  share? : (a c : ℕ) → a < length (g .links) → c < length (g .links) → Share (closed g) a c ⊎ (Share (closed g) a c → ⊥)
+  pub share? : (a c : ℕ) → a < length (g .links) → c < length (g .links) → Share (closed g) a c ⊎ (Share (closed g) a c → ⊥)
   share? a c la lc = pick (cases-bool (shareb (closed g) (g .steps) a c))
     where
       t : (shareb (closed g) (g .steps) a c ≡ true) ↔ Share (closed g) a c

@@ -10,6 +10,7 @@ pub mod Plans
 pub mod Lines
 pub mod Counting
 pub mod Insides
+pub mod Classes
 pub mod Orders
 pub mod Plain
 pub mod Tells

@@ -7,7 +7,7 @@ use Prim.Native.Nat.{ℕ, _<_}
 use lib.Dec.{eqb}
 use lib.ListN.{length}
 use Rattle.model.specs.Meaning.{Graph, tailOf, headOf, EndsBelow}
-use Rattle.model.specs.Walks.{Links, closed, Walks, Passes, Share, Sound}
+use Rattle.model.specs.Walks.{Links, closed, Walks, Passes, Share, ClassName, Sound}
 use Rattle.theory.specs.Tests.{reach, shareb}
 
 -- Every step reaches every step.
@@ -45,3 +45,13 @@ abbrev pub Share-is-cut : Type 0
 Share-is-cut =
     (g : Graph) → Sound g → (a b : ℕ) → a < length (closed g) → b < length (closed g) → a ≢ b →
     (Share (closed g) a b ↔ ((S : ℕ → Bool) × Crossed (closed g) S a b))
+
+-- Theorem: every link of a sound plan has exactly one class name.
+abbrev pub Class-named : Type 0
+Class-named =
+    (g : Graph) → Sound g → (l : ℕ) → l < length (g .links) →
+    ((c : ℕ) × ClassName g l c) × ((c d : ℕ) → ClassName g l c → ClassName g l d → c ≡ d)
+
+-- Theorem: a link with equal ends is alone in its class.
+abbrev pub Equal-ends-alone : Type 0
+Equal-ends-alone = (G : Links) (k : ℕ) → k < length G → tailOf G k ≡ headOf G k → (l : ℕ) → Share G k l → l ≡ k

@@ -1,5 +1,5 @@
 // The theorems on walks, classes, fragments, listings and calls. Each is the contract of a function, so that the crate is proved only with its proof.
-ghost use Rattle.theory.specs.Cuts.{Reach-decided, Share-decided, Share-is-cut};
+ghost use Rattle.theory.specs.Cuts.{Reach-decided, Share-decided, Share-is-cut, Class-named, Equal-ends-alone};
 ghost use Rattle.theory.specs.Orders.{Class-in-line, Leader-first, Fragments-neighbours};
 ghost use Rattle.theory.specs.Insides.{Inside-cut-off, Fragments-nest, Inside-tells, Plain-alone, Own-branches};
 ghost use Rattle.theory.specs.Listings.{One-listing, Below-by-parents, Parent-least, Runs-nest};
@@ -22,6 +22,20 @@ pub fn sharing_is_decided() -> u8
 // Two links share a class exactly when some set of steps is crossed by them and by no other link of the closed plan.
 pub fn sharing_is_a_cut() -> u8
     ensures { λ _. ⌜ Share-is-cut ⌝ }
+{
+    0
+}
+
+// Every link has exactly one class name.
+pub fn classes_are_named() -> u8
+    ensures { λ _. ⌜ Class-named ⌝ }
+{
+    0
+}
+
+// A link with equal ends is alone in its class.
+pub fn equal_ends_stand_alone() -> u8
+    ensures { λ _. ⌜ Equal-ends-alone ⌝ }
 {
     0
 }

@@ -80,6 +80,10 @@ ended (giving j (ok u) ∷ es) k = eqb k j || ended es k
 ended (giving j (refused n p) ∷ es) k = ended es k
 ended (rejecting i h n p ∷ es) k = ended es k
 
+-- Slip k is live: it was made, for the row and the holder s, and is not ended.
+abbrev pub Live : History → ℕ → ℕ × ℕ → Type 0
+Live es k s = (slip es k ≡ Some s) × (ended es k ≡ false)
+
 abbrev pub is-for : Option (ℕ × ℕ) → ℕ → Bool
 is-for None i = false
 is-for (Some s) i = eqb i (s .0)
@@ -124,8 +128,8 @@ module _ (g : Graph) (rows : List Row) (es : History) where
   Right (taking i h (ok u)) = (i < length rows) × ((j : ℕ) → Blocks i j → ⊥)
   Right (taking i h (refused n p)) =
       ((length rows ≤ i) × (n ≡ 61) × (p ≡ i)) ⊎ ((i < length rows) × (n ≡ 62) × Blocks i p × ((j : ℕ) → j < p → Blocks i j → ⊥))
-  -- an own slip that is not ended is always taken back
-  Right (giving k (ok u)) = ended es k ≡ false
+  -- a live slip is always taken back
+  Right (giving k (ok u)) = (s : ℕ × ℕ) × Live es k s
   Right (giving k (refused n p)) = ⊥
   Right (rejecting i h n p) = (holder es i ≡ Some h → ⊥) × (n ≡ 63) × (p ≡ i)
 

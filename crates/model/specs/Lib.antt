@@ -4,4 +4,5 @@ pub mod Walks
 pub mod Parts
 pub mod Kinds
 pub mod Listing
+pub mod Told
 pub mod History

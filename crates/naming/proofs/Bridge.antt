@@ -74,7 +74,7 @@ bridge S tree =
     }
 
 -- a fact of each number below 5
-five : (Q : ℕ → Type 0) → Q 0 → Q 1 → Q 2 → Q 3 → Q 4 → (k : ℕ) → k < 5 → Q k
+pub five : (Q : ℕ → Type 0) → Q 0 → Q 1 → Q 2 → Q 3 → Q 4 → (k : ℕ) → k < 5 → Q k
 five Q a b c d e zero h = a
 five Q a b c d e (suc zero) h = b
 five Q a b c d e (suc (suc zero)) h = c

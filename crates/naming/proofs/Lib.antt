@@ -12,3 +12,4 @@ pub mod Turns
 pub mod Bridge
 pub mod Crossing
 pub mod Classes
+pub mod Caps

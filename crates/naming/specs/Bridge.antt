@@ -20,7 +20,7 @@ pub record Bridged (S : Shape ℕ) : Type 0 where
   pub same-sub :
       (t : ℕ) (f : ℕ → Bool) → f 0 ≡ eqb 0 t → ((v : ℕ) → 0 < v → v < S .size → f v ≡ (eqb v t || f (S .parent v))) → (v : ℕ) → v < S .size → f v ≡ S .sub t v
 
--- Theorem.
+-- Theorem: so it is with every tree over numbers.
 abbrev pub Bridge-stands : Type 0
 Bridge-stands = (S : Shape ℕ) → Treelike S → Bridged S
 

@@ -7,3 +7,4 @@ pub mod Turns
 pub mod Bridge
 pub mod Crossing
 pub mod Classes
+pub mod Caps

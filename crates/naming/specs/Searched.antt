@@ -28,18 +28,21 @@ low-second P k = second (P .size) (hiAt (P .size) (P .parent) (low-own P) (P .si
 abbrev pub capped : Searched → ℕ → Bool
 capped P k = ltb (low-second P k) (low-own P k) && ltb (low-second P k) k
 
--- the items: back links, and behind them the cap of number k as many + k
-abbrev pub baseOf : Searched → Base ℕ
-baseOf P =
+-- the items: back links, and behind them the cap of number k as many + k, where the rule gives it one
+abbrev pub base-by : (ℕ → Bool) → Searched → Base ℕ
+base-by rule P =
     record {
       size = P .size;
       parent = P .parent;
       src = λ x. cond (ltb x (P .many)) (P .from x) (x - P .many);
       dst = λ x. cond (ltb x (P .many)) (P .to x) (low-second P (x - P .many));
       cap = λ x. not (ltb x (P .many));
-      own = λ k. cond (capped P k) ((P .many + k) ∷ P .links k) (P .links k);
+      own = λ k. cond (rule k) ((P .many + k) ∷ P .links k) (P .links k);
       hi0 = low-own P;
     }
+
+abbrev pub baseOf : Searched → Base ℕ
+baseOf P = base-by (capped P) P
 
 -- Parents have lower numbers, and each back link goes up to an ancestor.
 pub record Upward (P : Searched) : Type 0 where

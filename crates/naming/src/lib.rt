@@ -7,6 +7,7 @@ ghost use Rattle.naming.specs.Built.{Build-stands};
 ghost use Rattle.naming.specs.Searched.{Searched-stands};
 ghost use Rattle.naming.specs.Turns.{Turns-stand};
 ghost use Rattle.naming.specs.Bridge.{Bridge-stands, Example-stands};
+ghost use Rattle.naming.specs.Caps.{Cap-to-itself};
 
 // Two links share a class exactly when they have the same name.
 pub fn names_tell_classes() -> u8
@@ -67,6 +68,13 @@ pub fn turns_stand() -> u8
 // A link between a number and one above it crosses a subtree exactly when it leads out of it to above its root.
 pub fn subtrees_are_crossed() -> u8
     ensures { λ _. ⌜ Bridge-stands ⌝ }
+{
+    0
+}
+
+// With a cap from a step to itself the names would part two links of one class.
+pub fn caps_never_end_where_they_begin() -> u8
+    ensures { λ _. ⌜ Cap-to-itself ⌝ }
 {
     0
 }

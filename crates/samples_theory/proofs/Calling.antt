@@ -31,6 +31,15 @@ unfolding is-some
 t-some None = (λ e. absurd (false≢true e), λ p. absurd (none-some (p .0) (p .1)))
 t-some (Some h) = (λ e. (h, refl), λ p. refl)
 
+unfoldable pub has-slip : Option (ℕ × ℕ) → Bool
+has-slip None = false
+has-slip (Some s) = true
+
+slip-by : (o : Option (ℕ × ℕ)) → has-slip o ≡ true → (s : ℕ × ℕ) × (o ≡ Some s)
+unfolding has-slip
+slip-by None e = absurd (false≢true e)
+slip-by (Some s) e = (s, refl)
+
 unfoldable pub clashb : Graph → Part → Part → Bool
 clashb g p q = not (each-below (λ s. not (inb g p s && inb g q s)) (g .steps))
 
@@ -46,7 +55,7 @@ rightb g rows es (taking i h (ok u)) = ltb i (length rows) && each-below (λ j. 
 rightb g rows es (taking i h (refused n p)) =
     (leb (length rows) i && (eqb n 61 && eqb p i)) ||
     (ltb i (length rows) && (eqb n 62 && (ltb p (length rows) && (blocksb g rows es i p && each-below (λ j. not (blocksb g rows es i j)) p))))
-rightb g rows es (giving k (ok u)) = not (ended es k)
+rightb g rows es (giving k (ok u)) = has-slip (slip es k) && not (ended es k)
 rightb g rows es (giving k (refused n p)) = false
 rightb g rows es (rejecting i h n p) = false
 
@@ -157,7 +166,10 @@ module _ (μ : Meaning) (sound : Sound (μ .graph)) (rows : List Row) (L : Listi
           let li = ltb-true i (length rows) (x .0) in
           let lp = ltb-true p (length rows) (z .0) in
           inr (li, eqb-true n 62 (y .0), t-blocks es i p li lp .0 (w .0), none-by es i p li (omega arith) (w .1))
-  right-by es a (giving k (ok u)) e = not-true (ended es k) e
+  right-by es a (giving k (ok u)) e =
+      let h = and-parts (has-slip (slip es k)) (not (ended es k)) e in
+      let s = slip-by (slip es k) (h .0) in
+      (s .0, (s .1, not-true (ended es k) (h .1)))
   right-by es a (giving k (refused n p)) e = absurd (false≢true e)
   right-by es a (rejecting i h n p) e = absurd (false≢true e)
 

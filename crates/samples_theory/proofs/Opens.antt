@@ -106,7 +106,7 @@ run5 h =
     (lit< tt, λ j l m. none-some (m .0 .0) (sym (no-marks j) ∙ m .0 .1), refl))
     (inr (lit< tt, refl, lit< tt, ((h, refl), inr (lit≤ tt, lit< tt)), first), refl))
     (inl (lit≤ tt, refl, refl), refl))
-    refl refl (refl, refl))
+    (refl, refl) (refl, refl))
     (none-some h, refl, refl, refl)
   where
     v2 : View

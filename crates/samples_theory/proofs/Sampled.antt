@@ -16,7 +16,7 @@ use Rattle.theory.proofs.Parts.{leadsb, thirdb, canonicalb, inb, holdsb, size, 
 use Rattle.samples_theory.specs.Samples.{Sample, plan5, rows5, samples, Stands, All-stand, Samples-stand, none}
 use Rattle.samples_theory.proofs.Checks.{soundb, sound-by, same, logicb, branchb, opensb, closesb, takenb, ownb, onlyb, meshb, fitsb, kindb}
 use Rattle.samples_theory.proofs.Listed.{is-none, properb, place-of, listedb, hold, parentb, same-parent, risesb, listingb, listing-by}
-use Rattle.samples_theory.proofs.Calling.{is-some, clashb, blocksb, rightb, answeredb, answered-by}
+use Rattle.samples_theory.proofs.Calling.{is-some, has-slip, clashb, blocksb, rightb, answeredb, answered-by}
 
 -- classes
 unfoldable pub classb : Graph → ℕ → ℕ → Bool
@@ -100,7 +100,7 @@ all-by [] e = tt
 all-by (x ∷ xs) e = (sample-by x (λ h. and-parts (sampleb x h) (allb xs h) (e h) .0), all-by xs (λ h. and-parts (sampleb x h) (allb xs h) (e h) .1))
 
 computed : (h : ℕ) → allb samples h ≡ true
-unfolding allb sampleb planb classb limitsb soundb listingb is-none properb place-of listedb hold parentb same-parent risesb same logicb branchb opensb closesb takenb ownb onlyb meshb fitsb kindb kind-at leadsb thirdb canonicalb inb holdsb size shareb reach reached rounds sweep relax each-below is-some clashb blocksb rightb answeredb
+unfolding allb sampleb planb classb limitsb soundb listingb is-none properb place-of listedb hold parentb same-parent risesb same logicb branchb opensb closesb takenb ownb onlyb meshb fitsb kindb kind-at leadsb thirdb canonicalb inb holdsb size shareb reach reached rounds sweep relax each-below is-some has-slip clashb blocksb rightb answeredb
 computed h = refl
 
 pub samples-stand : Samples-stand

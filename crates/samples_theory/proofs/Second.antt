@@ -24,7 +24,7 @@ use Rattle.samples_theory.specs.Samples.{plan5, rows5, plan6, All-stand, of-on
 use Rattle.samples_theory.specs.Second.{Inside-not-dominance, plan4, Pair-not-canonical, Classes-differ, Both-are-needed, plan1, Return-names-none, Equal-ends-branch, Own-is-more, Soundness-refuses, interleaved, Classes-interleave, by-entry, deep, kinds, Further-stand}
 use Rattle.samples_theory.proofs.Checks.{soundb, sound-by, same, logicb, branchb, opensb, closesb, takenb, ownb, Covers, t-own, onlyb, meshb, fitsb, kindb}
 use Rattle.samples_theory.proofs.Listed.{is-none, properb, place-of, listedb, hold, parentb, same-parent, risesb, listingb}
-use Rattle.samples_theory.proofs.Calling.{is-some, clashb, blocksb, rightb, answeredb}
+use Rattle.samples_theory.proofs.Calling.{is-some, has-slip, clashb, blocksb, rightb, answeredb}
 use Rattle.samples_theory.proofs.Sampled.{classb, class-by, limitsb, planb, sampleb, allb, all-by, five}
 
 -- every walk passes a link that the test cannot go round
@@ -133,7 +133,7 @@ soundness-refuses = (
 )
 
 computed : (h : ℕ) → allb (interleaved ∷ by-entry ∷ deep ∷ kinds) h ≡ true
-unfolding allb sampleb planb classb limitsb soundb listingb is-none properb place-of listedb hold parentb same-parent risesb same logicb branchb opensb closesb takenb ownb onlyb meshb fitsb kindb kind-at leadsb thirdb canonicalb inb holdsb size shareb reach reached rounds sweep relax each-below is-some clashb blocksb rightb answeredb
+unfolding allb sampleb planb classb limitsb soundb listingb is-none properb place-of listedb hold parentb same-parent risesb same logicb branchb opensb closesb takenb ownb onlyb meshb fitsb kindb kind-at leadsb thirdb canonicalb inb holdsb size shareb reach reached rounds sweep relax each-below is-some has-slip clashb blocksb rightb answeredb
 computed h = refl
 
 further : All-stand (interleaved ∷ by-entry ∷ deep ∷ kinds)

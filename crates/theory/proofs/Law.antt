@@ -77,10 +77,10 @@ module _ (μ : Meaning) (sound : Sound (μ .graph)) (v : View) (start : Opened �
       subst (λ (y : View). Kept g v y (shown es) (λ k. cond (eqb k (length es)) (Some (i, h)) (slip es k)) (ended es) (λ j. cond (eqb j i) (Some h) (holder es j))) (sym (t .2))
       (kept-take μ sound v start w (shown es) (slip es) (ended es) (holder es) K i h (length es) (c .0) (c .1))
   kept (takes {es = es} {w = w} i h (refused a p) x r t) = to es w x (t .1) (kept r)
-  kept (gives {es = es} {w = w} k s (ok u) x r m f t) =
+  kept (gives {es = es} {w = w} k s (ok u) x r q t) =
       subst (λ (y : View). Kept g v y (shown es) (slip es) (λ l. eqb l k || ended es l) (λ j. cond (is-for (slip es k) j) None (holder es j))) (sym (t .1))
-      (kept-give μ sound v start w (shown es) (slip es) (ended es) (holder es) (kept r) k s m f)
-  kept (gives {es = es} {w = w} k s (refused a p) x r m f t) = to es w x (t .3) (kept r)
+      (kept-give μ sound v start w (shown es) (slip es) (ended es) (holder es) (kept r) k s (q .0) (q .1))
+  kept (gives {es = es} {w = w} k s (refused a p) x r q t) = to es w x (t .3) (kept r)
   kept (rejects {es = es} {w = w} i h a p x r t) = to es w x (t .3) (kept r)
 
   -- a list that has all rows, the newest first
@@ -100,16 +100,21 @@ module _ (μ : Meaning) (sound : Sound (μ .graph)) (v : View) (start : Opened �
           let k : ℕ = length sh - suc i in
           let lk : k < length sh = omega (arith, e) in
           let f : length sh - suc k ≡ i = omega (arith, e) in
-          let a : row sh k .part ≡ part i = at k lk ∙ ap part f in (
-            k,
-            lk,
-            a ∙ q,
-            λ j lj r. let s = start .listing .once (length sh - suc j) i (omega (arith, e)) l (sym (at j lj) ∙ r ∙ sym q) in omega (arith, e),
-          )
+          let a : row sh k .part ≡ part i = at k lk ∙ ap part f in
+          (k, lk, a ∙ q, only)
+        where
+          only : (j : ℕ) → j < length sh → row sh j .part ≡ p → j ≡ length sh - suc i
+          only j lj r =
+              let same : part (length sh - suc j) ≡ part i = sym (at j lj) ∙ r ∙ sym q in
+              let s = start .listing .once (length sh - suc j) i (omega (arith, e)) l same in
+              omega (arith, e)
 
       no-more : (j : ℕ) → j < length sh → (length sh - suc j ≡ 0) ⊎ (length sh - suc j ≡ 0 → ⊥) → (row sh j .part ≡ whole) ⊎ ((a : ℕ) × (b : ℕ) × (row sh j .part ≡ fragment a b) × Canonical g a b)
       no-more j l (inl z) = inl (at j l ∙ ap part z ∙ start .listing .top)
-      no-more j l (inr z) = let c = start .listing .canonical (length sh - suc j) (omega arith) (omega (arith, e)) in inr (c .0, c .1, at j l ∙ c .2, c .3)
+      no-more j l (inr z) = pick (start .listing .canonical (length sh - suc j) (omega arith) (omega (arith, e)))
+        where
+          pick : (a : ℕ) × (b : ℕ) × (part (length sh - suc j) ≡ fragment a b) × Canonical g a b → (row sh j .part ≡ whole) ⊎ ((a : ℕ) × (b : ℕ) × (row sh j .part ≡ fragment a b) × Canonical g a b)
+          pick (a, b, q, c) = inr (a, b, at j l ∙ q, c)
 
   -- the newest answer is right
   newest : History → Type 0
@@ -152,8 +157,8 @@ module _ (μ : Meaning) (sound : Sound (μ .graph)) (v : View) (start : Opened �
             ((m .0, sym (K .marks p) ∙ m .1), meets-clash μ sound v start w (shown es) (slip es) (ended es) (holder es) K i p li lp (q .3)),
             λ j l b. q .4 j l (meets-from μ sound v start w (shown es) (slip es) (ended es) (holder es) K i j (b .0 .0) li (b .0 .1) (b .1)),
           )
-  right (gives k s (ok u) x r m f t) = f
-  right (gives {es = es} {w = w} k s (refused a p) x r m f t) = let K = kept r in t .0 (K .marks (s .0) ∙ K .live k s m f)
+  right (gives k s (ok u) x r q t) = (s, q)
+  right (gives {es = es} {w = w} k s (refused a p) x r q t) = let K = kept r in t .0 (K .marks (s .0) ∙ K .live k s (q .0) (q .1))
   right (rejects {es = es} {w = w} i h a p x r t) = let K = kept r in (λ e. t .0 (K .marks i ∙ e), t .1, t .2)
 
   -- what was shown is a row's part
@@ -166,7 +171,7 @@ module _ (μ : Meaning) (sound : Sound (μ .graph)) (v : View) (start : Opened �
   seen (restarts x r t) p h = seen r p h
   seen (finds s a x r t) p h = seen r p h
   seen (takes i h a x r t) p q = seen r p q
-  seen (gives k s a x r m f t) p h = seen r p h
+  seen (gives k s a x r q t) p h = seen r p h
   seen (rejects i h a q x r t) p z = seen r p z
 
   answered : {es : History} {w : View} → Run v es w → Answered g (v .rows) es
@@ -176,7 +181,7 @@ module _ (μ : Meaning) (sound : Sound (μ .graph)) (v : View) (start : Opened �
   answered (restarts x r t) = (tt, answered r)
   answered (finds s a x r t) = (right (finds s a x r t), answered r)
   answered (takes i h a x r t) = (right (takes i h a x r t), answered r)
-  answered (gives k s a x r m f t) = (right (gives k s a x r m f t), answered r)
+  answered (gives k s a x r q t) = (right (gives k s a x r q t), answered r)
   answered (rejects i h a p x r t) = (right (rejects i h a p x r t), answered r)
 
 pub law-stands : Law-stands

@@ -136,4 +136,7 @@ module _ (g : Graph) (sound : Sound g) where
       pick (inr n) f = apart (line a c (r .pair .leads .1) (q .pair .leads .1) n share)
 
 pub class-in-line : Class-in-line
-class-in-line g sound a b la lb apart share = (line g sound a b la lb apart share, not-both g sound a b)
+class-in-line = record { one-leads = line; not-both = not-both; onward = onward }
+  where
+    onward : (g : Graph) → Sound g → (a b c : ℕ) → Leads g a b → Leads g b c → Leads g a c
+    onward g sound a b c l r = (λ e. not-both g sound a b l (subst (Leads g b) (sym e) r), l .1, r .2, λ v ks w p. l .3 v ks w (r .3 v ks w p))

@@ -1,7 +1,7 @@
 -- Canonical fragments, what is inside them, and how many, by computing.
 use mathlib.Core.Path.{_≡_, refl, sym, subst}
-use mathlib.Core.Logic.{_⊎_, inl, inr, ∥∥₁-elim}
-use mathlib.Core.Bool.{Bool, true, false, not, _&&_, _||_, Bool-set}
+use mathlib.Core.Logic.{_⊎_, inl, inr}
+use mathlib.Core.Bool.{Bool, true, false, not, _&&_, _||_}
 use mathlib.Core.List.{List, [], _∷_, _++_}
 use Prim.Native.Nat.{ℕ, _<_}
 use native.Mathlib.Omega.{arith}
@@ -12,11 +12,11 @@ use Rattle.model.specs.Meaning.{Graph, tailOf, headOf}
 use Rattle.model.specs.Walks.{Links, closed, Walks, Passes, Share, Leads, Canonical, Sound}
 use Rattle.model.specs.Parts.{Part, whole, fragment, In, Proper, Holds, how-many, Exactly, Counted}
 use Rattle.theory.specs.Tests.{reach, shareb, each-below}
-use Rattle.theory.proofs.Walks.{Avoids, avoids-no, no-avoids, passes?, avoids-append, passes-left, passes-right, walks-append, split}
+use Rattle.theory.proofs.Walks.{Avoids, avoids-no, passes?, avoids-append, passes-left, passes-right, walks-append, split}
 use Rattle.theory.proofs.Reach.{reach-walk, walk-reach}
 use Rattle.theory.proofs.Decide.{share-decided}
 use Rattle.theory.proofs.Plans.{more, closed-within}
-use Rattle.theory.proofs.Insides.{step}
+use Rattle.theory.proofs.Insides.{decided, step}
 use Rattle.theory.proofs.Counting.{exactly-le}
 use Rattle.theory.proofs.Tells.{Tells, t-no, t-imp, each-at, each-from, t-each}
 
@@ -124,11 +124,7 @@ module _ (g : Graph) (sound : Sound g) where
   pub t-in : (p : Part) → Proper g p → (s : ℕ) → Tells (inb g p s) (In g p s)
   unfolding inb
   t-in whole c s = (ltb-true s (g .steps), lt-ltb s (g .steps))
-  t-in (fragment a b) c s = (
-    λ e. let w = reach-walk (g .links) b (g .steps) (headOf (g .links) a) s e in ∣ (w .0, w .1, avoids-no b (w .0) (w .2)) ∣₁,
-    λ i. ∥∥₁-elim i (Bool-set (reach (g .links) (g .steps) b (headOf (g .links) a) s) true) (λ w.
-        walk-reach (g .links) b (g .steps) (headOf (g .links) a) s (sound .within) (sound .within a (c .pair .leads .1) .1) (w .0, w .1, no-avoids b (w .0) (w .2))),
-  )
+  t-in (fragment a b) c s = let d = decided g sound a b (c .pair) s in (d .1, d .0)
 
   pub t-holds : (p q : Part) → Proper g p → Proper g q → Tells (holdsb g p q) (Holds g p q)
   unfolding holdsb

@@ -1,7 +1,6 @@
 -- What each call does to a book, as a relation over the book before, the arguments, the answer and the book after; and the law over all lists of calls.
 use mathlib.Core.Path.{_≡_}
 use mathlib.Core.Logic.{_⊎_, _↔_}
-use mathlib.Core.Bool.{false}
 use mathlib.Core.List.{List, [], _∷_}
 use Prim.Native.Nat.{ℕ, _+_, _<_, _≤_}
 use lib.ListN.{length, getD, set}
@@ -11,7 +10,7 @@ use Rattle.model.specs.Meaning.{Meaning}
 use Rattle.model.specs.Walks.{Sound}
 use Rattle.model.specs.Parts.{Holds}
 use Rattle.model.specs.Listing.{Row, row, Listing, Innermost}
-use Rattle.model.specs.History.{Answer, ok, refused, showing, restarting, finding, taking, giving, rejecting, History, slip, ended, Right, Lawful}
+use Rattle.model.specs.History.{Answer, ok, refused, showing, restarting, finding, taking, giving, rejecting, History, Live, Right, Lawful}
 
 -- What a book holds: its rows, how many rows each has in its run, who has each row, the innermost row of each step, and the listing's place.
 pub record View : Type 0 where
@@ -66,7 +65,7 @@ abbrev pub GiveBack : View → (ℕ × ℕ) → Answer (Unit {0}) → View → T
 GiveBack v s (ok u) w = (mark v (s .0) ≡ Some (s .1)) × (w ≡ marked v (s .0) None)
 GiveBack v s (refused n p) w = (mark v (s .0) ≡ Some (s .1) → ⊥) × (n ≡ 63) × (p ≡ s .0) × (w ≡ v)
 
--- The calls of a history lead from the book v to the book w. Who has a slip may give it back; a slip that is ended nobody has. Of foreign slips only refused give-backs occur.
+-- The calls of a history lead from the book v to the book w. Of the book's own slips the live ones can be given back, since nobody has an ended one; of foreign slips refused give-backs occur.
 pub data Run (v : View) : History → View → Type 0 where
   opened : Run v [] v
   nexts : {es : History} {w : View} (r : Option (ℕ × Row)) (x : View) → Run v es w → Next w r x → Run v (showing r ∷ es) x
@@ -74,7 +73,7 @@ pub data Run (v : View) : History → View → Type 0 where
   finds : {es : History} {w : View} (s : ℕ) (r : Answer ℕ) (x : View) → Run v es w → Find w s r x → Run v (finding s r ∷ es) x
   takes : {es : History} {w : View} (i h : ℕ) (r : Answer (Unit {0})) (x : View) → Run v es w → Take w i h r x → Run v (taking i h r ∷ es) x
   gives :
-      {es : History} {w : View} (k : ℕ) (s : ℕ × ℕ) (r : Answer (Unit {0})) (x : View) → Run v es w → slip es k ≡ Some s → ended es k ≡ false →
+      {es : History} {w : View} (k : ℕ) (s : ℕ × ℕ) (r : Answer (Unit {0})) (x : View) → Run v es w → Live es k s →
       GiveBack w s r x → Run v (giving k r ∷ es) x
   rejects : {es : History} {w : View} (i h n p : ℕ) (x : View) → Run v es w → GiveBack w (i, h) (refused n p) x → Run v (rejecting i h n p ∷ es) x
 

@@ -7,11 +7,12 @@ use lib.ListN.{length, getD}
 use Rattle.model.specs.Meaning.{Graph, tailOf, headOf}
 use Rattle.model.specs.Walks.{closed, Share, Leads, Canonical, Sound}
 
--- Theorem: of two different links of a class one leads the other, and not both.
-abbrev pub Class-in-line : Type 0
-Class-in-line =
-    (g : Graph) → Sound g → (a b : ℕ) → a < length (g .links) → b < length (g .links) → a ≢ b → Share (closed g) a b →
-    (Leads g a b ⊎ Leads g b a) × (Leads g a b → Leads g b a → ⊥)
+-- Theorem: of two different links of a class one leads the other, and not both; and what a link leads leads on.
+pub record Class-in-line : Type 0 where
+  pub one-leads :
+      (g : Graph) → Sound g → (a b : ℕ) → a < length (g .links) → b < length (g .links) → a ≢ b → Share (closed g) a b → Leads g a b ⊎ Leads g b a
+  pub not-both : (g : Graph) → Sound g → (a b : ℕ) → Leads g a b → Leads g b a → ⊥
+  pub onward : (g : Graph) → Sound g → (a b c : ℕ) → Leads g a b → Leads g b c → Leads g a c
 
 abbrev pub linkAt : List ℕ → ℕ → ℕ
 linkAt order i = getD order i 0

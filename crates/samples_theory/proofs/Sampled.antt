@@ -13,7 +13,7 @@ use Rattle.theory.specs.Tests.{relax, sweep, rounds, reached, reach, shareb, ea
 use Rattle.theory.proofs.Unique.{kind-at}
 use Rattle.theory.proofs.Tells.{each-at}
 use Rattle.theory.proofs.Parts.{leadsb, thirdb, canonicalb, inb, holdsb, size, t-share}
-use Rattle.samples_theory.specs.Samples.{Sample, plan5, rows5, samples, Stands, All-stand, Samples-stand, none}
+use Rattle.samples_theory.specs.Samples.{Sample, plan5, rows5, samples, turned-samples, Stands, All-stand, Samples-stand, none}
 use Rattle.samples_theory.proofs.Checks.{soundb, sound-by, same, logicb, branchb, opensb, closesb, takenb, ownb, onlyb, meshb, fitsb, kindb}
 use Rattle.samples_theory.proofs.Listed.{is-none, properb, place-of, listedb, hold, parentb, same-parent, risesb, listingb, listing-by}
 use Rattle.samples_theory.proofs.Calling.{is-some, has-slip, clashb, blocksb, rightb, answeredb, answered-by}
@@ -99,12 +99,12 @@ unfolding allb
 all-by [] e = tt
 all-by (x ∷ xs) e = (sample-by x (λ h. and-parts (sampleb x h) (allb xs h) (e h) .0), all-by xs (λ h. and-parts (sampleb x h) (allb xs h) (e h) .1))
 
-computed : (h : ℕ) → allb samples h ≡ true
+computed : (h : ℕ) → (allb samples h ≡ true) × (allb turned-samples h ≡ true)
 unfolding allb sampleb planb classb limitsb soundb listingb is-none properb place-of listedb hold parentb same-parent risesb same logicb branchb opensb closesb takenb ownb onlyb meshb fitsb kindb kind-at leadsb thirdb canonicalb inb holdsb size shareb reach reached rounds sweep relax each-below is-some has-slip clashb blocksb rightb answeredb
-computed h = refl
+computed h = (refl, refl)
 
 pub samples-stand : Samples-stand
-samples-stand = all-by samples computed
+samples-stand = (all-by samples (λ h. computed h .0), all-by turned-samples (λ h. computed h .1))
 
 pub five : Stands (record { plan = plan5; rows = rows5; classes = 0 ∷ 1 ∷ 1 ∷ 3 ∷ 3 ∷ 0 ∷ []; calls = none })
-five = samples-stand .1 .1 .1 .1 .0
+five = samples-stand .0 .1 .1 .1 .1 .0

@@ -71,6 +71,19 @@ samples =
     record { plan = plan5; rows = rows5; classes = 0 ∷ 1 ∷ 1 ∷ 3 ∷ 3 ∷ 0 ∷ []; calls = tenth } ∷
     []
 
+-- The others turned: the same classes, entry and exit exchanged, and so other rows first where two have one parent.
+abbrev pub turned-samples : List Sample
+turned-samples =
+    record { plan = turned (of-one 1 ((0, 1) ∷ [])); rows = top 2 ∷ []; classes = 0 ∷ []; calls = none } ∷
+    record { plan = turned (of-one 1 ((0, 1) ∷ (0, 1) ∷ [])); rows = top 2 ∷ []; classes = 0 ∷ 1 ∷ []; calls = none } ∷
+    record { plan = turned (of-one 2 ((0, 1) ∷ (1, 2) ∷ [])); rows = top 3 ∷ under 0 Single 1 0 1 ∷ []; classes = 0 ∷ 0 ∷ []; calls = none } ∷
+    record { plan = turned (of-one 3 ((0, 1) ∷ (1, 2) ∷ (2, 3) ∷ [])); rows = top 4 ∷ under 0 Single 1 0 1 ∷ under 0 Single 2 1 1 ∷ []; classes = 0 ∷ 0 ∷ 0 ∷ []; calls = none } ∷
+    record { plan = turned plan5; rows = top 6 ∷ under 0 Choice 5 0 4 ∷ under 1 Single 2 1 1 ∷ under 1 Single 4 3 1 ∷ []; classes = 0 ∷ 1 ∷ 1 ∷ 3 ∷ 3 ∷ 0 ∷ []; calls = none } ∷
+    record { plan = turned (of-one 2 ((0, 1) ∷ (1, 1) ∷ (1, 2) ∷ [])); rows = top 3 ∷ under 0 Loop 2 0 1 ∷ []; classes = 0 ∷ 1 ∷ 0 ∷ []; calls = none } ∷
+    record { plan = turned (turned plan6); rows = top 6 ∷ under 0 Loop 0 5 4 ∷ under 1 Single 1 2 1 ∷ under 1 Single 3 4 1 ∷ []; classes = 0 ∷ 1 ∷ 1 ∷ 3 ∷ 3 ∷ 0 ∷ []; calls = none } ∷
+    record { plan = turned (of-one 4 ((0, 1) ∷ (1, 2) ∷ (2, 1) ∷ (1, 3) ∷ (3, 1) ∷ (1, 4) ∷ [])); rows = top 5 ∷ under 0 Loop 5 0 3 ∷ under 1 Single 2 1 1 ∷ under 1 Single 4 3 1 ∷ []; classes = 0 ∷ 1 ∷ 1 ∷ 3 ∷ 3 ∷ 0 ∷ []; calls = none } ∷
+    []
+
 -- The sample is as the definitions say.
 pub record Stands (x : Sample) : Type 0 where
   pub limits : Limits (x .plan)
@@ -83,9 +96,9 @@ abbrev pub All-stand : List Sample → Type 0
 All-stand [] = Unit {0}
 All-stand (x ∷ xs) = Stands x × All-stand xs
 
--- Theorem: each of the samples has these rows and classes, and its calls these answers.
+-- Theorem: each of the samples, and each turned one, has these rows and classes, and its calls these answers.
 abbrev pub Samples-stand : Type 0
-Samples-stand = All-stand samples
+Samples-stand = All-stand samples × All-stand turned-samples
 
 -- A book that is opened over plan 5, and a history of it, the newest call first, that has every call and every refusal.
 abbrev pub book5 : View

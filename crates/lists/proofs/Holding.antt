@@ -46,6 +46,9 @@ module _ {T : Type 0} (P : ℕ → T → Type 0) (cs cs′ : List (Cell T)) (ls 
       let t = told (h .0) (h .1) in
       ((put (h .0) j (rest (h .0 j)), t .1, all-put P (h .0) j (rest (h .0 j)) (h .2) (all-rest (P j) (h .0 j) (h .2 j))), subst (λ (o : Option T). Cases o (Unit {0}) (P j)) (sym (t .0)) (all-top (P j) (h .0 j) (h .2 j)))
 
+  pub holding-first : (j : ℕ) (r : Option T) → ((rows : ℕ → List T) → Rows cs ls rows → r ≡ top (rows j)) → Holding P cs ls → Cases r (Unit {0}) (P j)
+  holding-first j r told h = subst (λ (o : Option T). Cases o (Unit {0}) (P j)) (sym (told (h .0) (h .1))) (all-top (P j) (h .0 j) (h .2 j))
+
   -- what holds in the list j has to hold in the list i, too
   pub holding-join : (i j : ℕ) → ((rows : ℕ → List T) → Rows cs ls rows → Rows cs′ ls′ (put (put rows j []) i (rows j ++ rows i))) → ((x : T) → P j x → P i x) → Holding P cs ls → Holding P cs′ ls′
   holding-join i j told f h =

@@ -1,2 +1,4 @@
 pub mod Makes
 pub mod Table
+pub mod Drafts
+pub mod Refused

@@ -14,6 +14,8 @@ use std::alloc::AllocError;
 use std::alloc::Global;
 
 pub mod as_plan;
+pub(crate) mod drafting;
+pub mod reading;
 
 #[derive(Drop)]
 pub struct GatewayTable {

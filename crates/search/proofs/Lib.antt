@@ -2,8 +2,9 @@ pub mod Rowing
 pub mod Numbers
 pub mod Ancestry
 pub mod Turns
-pub mod Reach
+pub mod Closing
 pub mod Copying
 pub mod Ordering
 pub mod Turned
 pub mod Shaping
+pub mod OneFault

@@ -67,3 +67,8 @@ leads-turned G u v p = ∥∥₁-elim p squash₁ (λ q. ∣ walks-turned G u (q
 
 pub missed-back : (G : List (ℕ × ℕ)) (n u s : ℕ) → (s < n) × (Leads-to (map swapped G) u s → ⊥) × ((v : ℕ) → v < s → Leads-to (map swapped G) u v) → (s < n) × (Leads-to G s u → ⊥) × ((v : ℕ) → v < s → Leads-to G v u)
 missed-back G n u s m = (m .0, λ p. m .1 (leads-turned G s u p), λ v lv. leads-back G u v (m .2 v lv))
+
+-- each step lies on a walk from u to v
+pub both : (G : List (ℕ × ℕ)) (n u v : ℕ) → ((s : ℕ) → s < n → Leads-to G u s) → ((s : ℕ) → s < n → Leads-to (map swapped G) v s) → (s : ℕ) → s < n → ∥ ((ks : List ℕ) × (js : List ℕ) × Walks G u ks s × Walks G s js v) ∥₁
+both G n u v to back s lt =
+    ∥∥₁-elim (to s lt) squash₁ (λ p. ∥∥₁-elim (leads-back G v s (back s lt)) squash₁ (λ q. ∣ (p .0, q .0, p .1, q .1) ∣₁))

@@ -33,8 +33,3 @@ Connected links n root =
     (S : ℕ → Bool) → S root ≡ true
     → ((l : ℕ) → l < length links → S (tailOf links l) ≡ S (headOf links l))
     → (v : ℕ) → v < n → S v ≡ true
-
--- the links ls lead from u to v, each in either direction
-abbrev pub Way : List (ℕ × ℕ) → ℕ → List ℕ → ℕ → Type 0
-Way links u [] v = u ≡ v
-Way links u (l ∷ ls) v = (w : ℕ) × Joins links l u w × Way links w ls v

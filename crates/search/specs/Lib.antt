@@ -5,3 +5,4 @@ pub mod Copied
 pub mod Walks
 pub mod Searched
 pub mod Shapes
+pub mod Laws

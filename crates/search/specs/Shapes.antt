@@ -13,7 +13,7 @@ use Rattle.model.specs.Meaning.{Graph, tailOf, headOf}
 use Rattle.search.specs.declared.shapes.ShapeFault.{ShapeFault}
 use Rattle.search.specs.declared.shapes.ShapeFault.the-variants.{EntersFirst, LeavesLast, NotReached, NoWayOut, Memory}
 use Rattle.search.specs.Searched.{InOrder, link-at}
-use Rattle.search.specs.Walks.{Sound, None-enters, None-leaves, Leads-to}
+use Rattle.search.specs.Walks.{Sound, None-in, None-out, Leads-to}
 
 -- the number, the layer and the place of each fault
 abbrev pub shape-refusal : ShapeFault → Option Refusal
@@ -34,10 +34,10 @@ abbrev pub Misshaped : Graph → ShapeFault → Type 0
 Misshaped P (EntersFirst l) =
     (l .0 < length (P .links)) × (headOf (P .links) (l .0) ≡ P .first) × ((k : ℕ) → k < l .0 → headOf (P .links) k ≡ P .first → ⊥)
 Misshaped P (LeavesLast l) =
-    None-enters P × (l .0 < length (P .links)) × (tailOf (P .links) (l .0) ≡ P .last) × ((k : ℕ) → k < l .0 → tailOf (P .links) k ≡ P .last → ⊥)
+    None-in P × (l .0 < length (P .links)) × (tailOf (P .links) (l .0) ≡ P .last) × ((k : ℕ) → k < l .0 → tailOf (P .links) k ≡ P .last → ⊥)
 Misshaped P (NotReached s) =
-    None-enters P × None-leaves P × (s .0 < P .steps) × (Leads-to (P .links) (P .first) (s .0) → ⊥) × ((v : ℕ) → v < s .0 → Leads-to (P .links) (P .first) v)
+    None-in P × None-out P × (s .0 < P .steps) × (Leads-to (P .links) (P .first) (s .0) → ⊥) × ((v : ℕ) → v < s .0 → Leads-to (P .links) (P .first) v)
 Misshaped P (NoWayOut s) =
-    None-enters P × None-leaves P × ((v : ℕ) → v < P .steps → Leads-to (P .links) (P .first) v)
+    None-in P × None-out P × ((v : ℕ) → v < P .steps → Leads-to (P .links) (P .first) v)
     × (s .0 < P .steps) × (Leads-to (P .links) (s .0) (P .last) → ⊥) × ((v : ℕ) → v < s .0 → Leads-to (P .links) v (P .last))
 Misshaped P Memory = Unit {0}

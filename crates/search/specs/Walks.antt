@@ -18,15 +18,21 @@ Leads-to G u v = ∥ ((ks : List ℕ) × Walks G u ks v) ∥₁
 abbrev pub closed : Graph → List (ℕ × ℕ)
 closed P = P .links ++ (P .last, P .first) ∷ []
 
-abbrev pub None-enters : Graph → Type 0
-None-enters P = (k : ℕ) → k < length (P .links) → headOf (P .links) k ≡ P .first → ⊥
+-- no link enters the first step
+abbrev pub None-in : Graph → Type 0
+None-in P = (k : ℕ) → k < length (P .links) → headOf (P .links) k ≡ P .first → ⊥
 
-abbrev pub None-leaves : Graph → Type 0
-None-leaves P = (k : ℕ) → k < length (P .links) → tailOf (P .links) k ≡ P .last → ⊥
+-- no link leaves the last step
+abbrev pub None-out : Graph → Type 0
+None-out P = (k : ℕ) → k < length (P .links) → tailOf (P .links) k ≡ P .last → ⊥
 
 -- no link enters the first step, none leaves the last, and every step lies on a walk from first to last
 pub record Sound (P : Graph) : Type 0 where
-  pub none-enters : None-enters P
-  pub none-leaves : None-leaves P
-  pub from-first : (s : ℕ) → s < P .steps → Leads-to (P .links) (P .first) s
-  pub to-last : (s : ℕ) → s < P .steps → Leads-to (P .links) s (P .last)
+  pub begins : P .first < P .steps
+  pub ends : P .last < P .steps
+  pub within : EndsBelow (P .steps) (P .links)
+  pub none-in : None-in P
+  pub none-out : None-out P
+  pub between :
+      (s : ℕ) → s < P .steps →
+      ∥ ((ks : List ℕ) × (js : List ℕ) × Walks (P .links) (P .first) ks s × Walks (P .links) s js (P .last)) ∥₁

@@ -23,7 +23,11 @@ pub struct Arc {
 }
 
 // For each step, the links that it has, the last one first.
-pub fn arcs_at_steps(heap: Global, links: &[Ends], steps: usize) -> Result<Lists<Arc>, NoMemory>
+pub(crate) fn arcs_at_steps(
+    heap: Global,
+    links: &[Ends],
+    steps: usize,
+) -> Result<Lists<Arc>, NoMemory>
     requires below { ⌜ EndsBelow steps (map pair-of (now links)) ⌝ }
     requires few { ⌜ length (now links) ≤ 65536 ⌝ }
     ensures { λ r. ⌜ made r (λ t. (vec-len (t .chains) ≡ steps) × Rows (vec-items (t .arena .cells)) (vec-items (t .chains)) (arcs-of (map pair-of (now (links .entry))) (length (now (links .entry))))) ⌝ }

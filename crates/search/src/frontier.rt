@@ -21,7 +21,7 @@ pub struct Reach {
 
 impl Reach {
     // Only `start` is reached.
-    pub(crate) fn from(heap: Global, steps: usize, start: StepNo) -> Result<Reach, NoMemory>
+    pub(crate) fn new(heap: Global, steps: usize, start: StepNo) -> Result<Reach, NoMemory>
         requires { ⌜ start .0 < steps ⌝ }
         ensures { λ r. ⌜ made r (λ t. (vec-items (t .reached) ≡ set (replicate steps false) (start .0) true) × (vec-items (t .queue) ≡ start ∷ [])) ⌝ }
     {
@@ -32,8 +32,8 @@ impl Reach {
         Ok(Reach { reached, queue })
     }
 
-    // Reaches `step`, unless it is reached already.
-    pub(crate) fn reach(&mut self, step: StepNo) -> Result<(), NoMemory>
+    // Adds `step`, unless it is reached already.
+    pub(crate) fn add(&mut self, step: StepNo) -> Result<(), NoMemory>
         requires { ⌜ step .0 < vec-len (now self .reached) ⌝ }
         ensures { λ r. ⌜ made r (λ _. When (getD (vec-items (now (self .entry) .reached)) (step .0) false) ((vec-items (now (self .exit) .reached) ≡ vec-items (now (self .entry) .reached)) × (vec-items (now (self .exit) .queue) ≡ vec-items (now (self .entry) .queue))) ((vec-items (now (self .exit) .reached) ≡ set (vec-items (now (self .entry) .reached)) (step .0) true) × (vec-items (now (self .exit) .queue) ≡ vec-items (now (self .entry) .queue) ++ step ∷ []))) ⌝ }
     {

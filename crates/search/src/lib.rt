@@ -1,7 +1,8 @@
 // Searches of a plan: its graph in arrays, the order of search, its soundness, and the depth-first tree.
-pub mod arcs;
-pub mod frontier;
+mod arcs;
+mod frontier;
 pub mod graphs;
+pub mod laws;
 pub mod orders;
 pub mod shapes;
 pub mod soundness;
@@ -16,6 +17,7 @@ pub use shapes::ShapeFaultDebug;
 pub use shapes::ShapeFaultFromMemory;
 pub use shapes::ShapeFaultPartialEq;
 pub use soundness::sound_order;
-pub use spanning::explore;
+pub use spanning::closed_links;
+pub use spanning::depth_first;
 pub use trees::Tree;
 pub use trees::Visit;

@@ -51,7 +51,7 @@ pub fn order_of_search(
     ensures { λ r. ⌜ made r (λ o. Searched (map pair-of (now (links .entry))) steps (start .0) (vec-items (o .links)) (vec-items (o .reached))) ⌝ }
 {
     let mut left = links_leaving(heap, links, steps)?;
-    let mut reach = Reach::from(heap, steps, start)?;
+    let mut reach = Reach::new(heap, steps, start)?;
     let mut order = Vec::new(heap);
     let mut at = 0;
     'turn: while at < reach.queue.len() {
@@ -62,7 +62,7 @@ pub fn order_of_search(
         };
         order.push(link)?;
         let head = links[link.0 as usize].head;
-        reach.reach(head)?;
+        reach.add(head)?;
     }
     Ok(Order {
         links: order,

@@ -1,5 +1,5 @@
 -- What holds of each element, where a list is read, made, pushed to or written.
-use mathlib.Core.Path.{_≡_, sym, _∙_, ap, subst}
+use mathlib.Core.Path.{_≡_, refl, sym, _∙_, ap, subst}
 use mathlib.Core.Bool.{Bool, true, false, cond}
 use mathlib.Core.List.{List, [], _∷_, _++_}
 use mathlib.Core.Logic.{_⊎_, inl, inr}
@@ -8,6 +8,7 @@ use native.Mathlib.Omega.{arith}
 use lib.ListN.{length, getD, set, length-set, replicate}
 use Rattle.std.proofs.shelf.Lists.{getD-append-left, getD-set-same, getD-set-other, getD-default, getD-past, length-push, getD-push, getD-replicate, length-replicate}
 use Rattle.std.proofs.shelf.Tests.{cases-eq, cases-lt}
+use Rattle.std.specs.Options.{valueOr}
 use Rattle.std.specs.declared.option.Option.{Option}
 use Rattle.std.specs.declared.option.Option.the-variants.{None, Some}
 use Rattle.theory.specs.Each.{Each, EachSome}
@@ -82,3 +83,11 @@ each-some-none P xs n e k x is = go (cases-lt k n)
 
 pub each-some-weaken : {X : Type 0} (P Q : X → Type 0) (xs : List (Option X)) → ((x : X) → P x → Q x) → EachSome P xs → EachSome Q xs
 each-some-weaken P Q xs f all k x e = f x (all k x e)
+
+-- what was read, or another value if nothing was there
+pub each-some-or : {X : Type 0} (P : X → Type 0) (xs : List (Option X)) (k : ℕ) (o : Option X) (y r : X) → EachSome P xs → k < length xs → o ≡ getD xs k o → P y → r ≡ valueOr o y → P r
+each-some-or P xs k None y r all lt e p is = subst P (sym is) p
+each-some-or P xs k (Some x) y r all lt e p is = subst P (sym is) (each-some-read P xs k (Some x) x all lt e refl)
+
+pub each-nil : {X : Type 0} (P : X → Type 0) (d : X) (xs : List X) → xs ≡ [] → Each P d xs
+each-nil P d xs e k lt = let l : length xs ≡ 0 = ap length e in absurd (omega arith)

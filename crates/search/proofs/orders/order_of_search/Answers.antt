@@ -54,8 +54,8 @@ index-links-link c =
     let r = c .in-Some .ensures tt .rows (i .1 .0) (i .1 .1) in
     omega (arith, length-map (c .args .links .now) pair-of, link-in _ (c .args .steps) _ _ _ _ (i .1 .0) (c .turn .at) (c .index-step .result .now .0) (c .in-Some .link) (r .0) (i .1 .2))
 
-pub reach-requires : need.reach-requires
-reach-requires c κs =
+pub add-requires : need.add-requires
+add-requires c κs =
     let es = c .args .links .now in
     let i = c .turn .inv in
     let r = c .in-Some .ensures tt .rows (i .1 .0) (i .1 .1) in
@@ -63,19 +63,19 @@ reach-requires c κs =
     omega (arith, c .turn .reach .reached .ok .0, i .1 .2 .long, ap (λ (p : ℕ × ℕ). p .1) (pair-at es (c .in-Some .link .0)), c .pre .below (c .in-Some .link .0) lt .1)
 
 -- the head of the link is reached
-grown : (c : need.In-Continue-reach-2) → Grows (c .turn .reach .reached .items) (c .turn .reach .queue .items) (c .reach .last .self .reached .items) (c .reach .last .self .queue .items) (headOf (map pair-of (c .args .links .now)) (c .in-Some .link .0))
+grown : (c : need.In-Continue-add) → Grows (c .turn .reach .reached .items) (c .turn .reach .queue .items) (c .add .last .self .reached .items) (c .add .last .self .queue .items) (headOf (map pair-of (c .args .links .now)) (c .in-Some .link .0))
 grown c =
     let es = c .args .links .now in
     let i = c .turn .inv in
     let r = c .in-Some .ensures tt .rows (i .1 .0) (i .1 .1) in
     let lt = link-in _ (c .args .steps) _ _ _ _ (i .1 .0) (c .turn .at) (c .index-step .result .now .0) (c .in-Some .link) (r .0) (i .1 .2) in
     let e = ap (λ (p : ℕ × ℕ). p .1) (pair-at es (c .in-Some .link .0)) in
-    subst (λ (h : ℕ). Grows (c .turn .reach .reached .items) (c .turn .reach .queue .items) (c .reach .last .self .reached .items) (c .reach .last .self .queue .items) h) (sym e)
-    (grows _ _ _ _ (getD es (c .in-Some .link .0) (ends-from (0, 0)) .head) (omega (arith, i .1 .2 .long, e, c .pre .below (c .in-Some .link .0) lt .1)) (c .in-Continue-reach-2 .ensures tt))
+    subst (λ (h : ℕ). Grows (c .turn .reach .reached .items) (c .turn .reach .queue .items) (c .add .last .self .reached .items) (c .add .last .self .queue .items) h) (sym e)
+    (grows _ _ _ _ (getD es (c .in-Some .link .0) (ends-from (0, 0)) .head) (omega (arith, i .1 .2 .long, e, c .pre .below (c .in-Some .link .0) lt .1)) (c .in-Continue-add .ensures tt))
 
 pub turn-less : need.turn-less
 turn-less c =
-    omega (arith, c .turn-test .taken, c .turn .reach .queue .ok .0, c .reach .last .self .queue .ok .0, c .in-Some .ensures tt .total, grown c .by-one)
+    omega (arith, c .turn-test .taken, c .turn .reach .queue .ok .0, c .add .last .self .queue .ok .0, c .in-Some .ensures tt .total, grown c .by-one)
 
 pub turn-again : need.turn-again
 turn-again c =

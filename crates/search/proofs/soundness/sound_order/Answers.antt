@@ -9,7 +9,7 @@ use Rattle.model.specs.Meaning.{EndsBelow, pair-of, tailOf, headOf}
 use Rattle.plan.specs.Makes.{swapped}
 use Rattle.search.specs.Searched.{Searched}
 use Rattle.search.proofs.Turned.{turned-below}
-use Rattle.search.proofs.Shaping.{none-of, found-of, missed, none-missed, all-listed, leads-back, missed-back}
+use Rattle.search.proofs.Shaping.{none-of, found-of, missed, none-missed, all-listed, both, missed-back}
 use Rattle.search.proofs.soundness.sound_order.Needs as need
 
 pub returns-in-Some : need.returns-in-Some
@@ -72,10 +72,12 @@ returns c =
     let y = subst (λ (G : List (ℕ × ℕ)). Searched G (g .steps) (g .last .0) (b .links .items) (b .reached .items)) e (c .in-Continue-back .ensures tt) in
     record {
       sound = record {
-        none-enters = none-of headOf _ _ _ (c .deref .ensures .value) (c .in-rest .ensures tt);
-        none-leaves = none-of tailOf _ _ _ (c .deref-2 .ensures .value) (c .in-rest-first-leaving .ensures tt);
-        from-first = none-missed _ _ _ _ _ _ w (c .deref-4 .ensures .value) (c .in-rest-first-missed .ensures tt);
-        to-last = λ s lt. leads-back _ _ s (none-missed _ _ _ _ _ _ y (c .deref-7 .ensures .value) (c .in-rest-first-missed-2 .ensures tt) s lt);
+        begins = g .«first_below»;
+        ends = g .«last_below»;
+        within = g .«ends_below»;
+        none-in = none-of headOf _ _ _ (c .deref .ensures .value) (c .in-rest .ensures tt);
+        none-out = none-of tailOf _ _ _ (c .deref-2 .ensures .value) (c .in-rest-first-leaving .ensures tt);
+        between = both _ _ _ _ (none-missed _ _ _ _ _ _ w (c .deref-4 .ensures .value) (c .in-rest-first-missed .ensures tt)) (none-missed _ _ _ _ _ _ y (c .deref-7 .ensures .value) (c .in-rest-first-missed-2 .ensures tt));
       };
       in-order = w .in-order;
       whole = all-listed _ _ _ _ _ _ (g .«ends_below») w (c .deref-4 .ensures .value) (c .in-rest-first-missed .ensures tt);

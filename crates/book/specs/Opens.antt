@@ -7,7 +7,7 @@ use Rattle.std.specs.Of.Vec.{vec-items}
 use Rattle.std.specs.declared.option.Option.{Option}
 use Rattle.std.specs.declared.option.Option.the-variants.{None}
 use Rattle.model.specs.Meaning.{Meaning}
-use Rattle.search.specs.Walks.{Sound}
+use Rattle.model.specs.Walks.{Sound}
 use Rattle.book.specs.declared.books.Book.{Book}
 
 -- no row is out, and the listing is at its start

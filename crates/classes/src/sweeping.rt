@@ -1,6 +1,5 @@
 // The numbers from the last to the first: each list gets its own brackets and its cap, names its tree link, and joins its parent's.
 ghost use mathlib.Core.Path.{_≡_};
-ghost use mathlib.Core.List.{[], _∷_, _++_};
 ghost use Prim.Native.Nat.{ℕ, _+_, _<_, _≤_};
 ghost use lib.ListN.{length};
 ghost use Rattle.std.specs.Of.Vec.{vec-items, vec-len};
@@ -19,12 +18,12 @@ use crate::naming::smallest;
 use lists::NoMemory;
 use lists::NoMemoryFromAlloc;
 use lists::NoMemoryFromRefused;
-use model::Ends;
 use model::LinkNo;
 use search::Graph;
 use search::Tree;
 use search::Visit;
-use search::explore;
+use search::closed_links;
+use search::depth_first;
 use std::alloc::Global;
 
 // Pushes a cap on the own brackets of `v`, if it needs one.
@@ -119,25 +118,12 @@ fn own_names(links: u16, heap: Global) -> Result<Vec<LinkNo>, NoMemory>
     Ok(names)
 }
 
-// The links of the plan, and then the return link.
-fn closed_links(graph: &Graph, heap: Global) -> Result<Vec<Ends>, NoMemory>
-    ensures { λ r. ⌜ made r (λ v. vec-items v ≡ vec-items (now (graph .entry) .links) ++ (record { tail = now (graph .entry) .last; head = now (graph .entry) .first } ∷ [])) ⌝ }
-{
-    let mut links = Vec::new(heap);
-    links.extend_from_slice(graph.links.as_slice())?;
-    links.push(Ends {
-        tail: graph.last,
-        head: graph.first,
-    })?;
-    Ok(links)
-}
-
 // For each link of a sound plan, the smallest link of its class.
 pub fn classes(graph: &Graph, heap: Global) -> Result<Vec<LinkNo>, NoMemory>
     ensures { λ r. ⌜ made r (λ v. (length (vec-items v) ≡ length (vec-items (now (graph .entry) .links))) × Each (Below (length (vec-items (now (graph .entry) .links)))) (record { 0 = 0 }) (vec-items v)) ⌝ }
 {
     let closed = closed_links(graph, heap)?;
-    let tree = explore(heap, closed.as_slice(), graph.steps as usize, graph.first)?;
+    let tree = depth_first(graph, heap)?;
     let links = closed.len() as u16;
     let items = links + tree.visits.len() as u16;
     let mut started = back_links(&tree, closed.as_slice(), items, heap)?;

@@ -14,7 +14,7 @@ use Rattle.std.specs.Vec.{made}
 use Rattle.std.specs.declared.result.Result.{Result}
 use Rattle.std.specs.declared.result.Result.the-variants.{Ok, Err}
 use Rattle.search.specs.Joined.{Connected}
-use Rattle.search.specs.Walks.{Walks, Sound, closed}
+use Rattle.model.specs.Walks.{Walks, Sound, closed}
 
 module _ (P : Graph) where
   pub more : length (closed P) ≡ length (P .links) + 1

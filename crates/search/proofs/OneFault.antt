@@ -9,7 +9,8 @@ use Rattle.model.specs.Meaning.{Graph, tailOf, headOf}
 use Rattle.search.specs.declared.shapes.ShapeFault.{ShapeFault}
 use Rattle.search.specs.declared.shapes.ShapeFault.the-variants.{EntersFirst, LeavesLast, NotReached, NoWayOut, Memory}
 use Rattle.search.specs.Laws.{One-fault, Sound-has-none}
-use Rattle.search.specs.Walks.{Sound, Leads-to}
+use Rattle.model.specs.Walks.{Sound}
+use Rattle.search.specs.Walks.{Leads-to}
 
 -- the smallest number with a property is one
 least : (A : ℕ → Type 0) (p q : ℕ) → A p → A q → ((k : ℕ) → k < p → A k → ⊥) → ((k : ℕ) → k < q → A k → ⊥) → p ≡ q

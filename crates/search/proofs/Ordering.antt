@@ -20,7 +20,7 @@ use Rattle.model.specs.declared.numbers.LinkNo.{LinkNo}
 use Rattle.model.specs.declared.numbers.StepNo.{StepNo}
 use Rattle.model.specs.Meaning.{tailOf, headOf, EndsBelow}
 use Rattle.search.specs.Joined.{add}
-use Rattle.search.specs.Walks.{Walks}
+use Rattle.model.specs.Walks.{Walks}
 use Rattle.search.specs.Searched.{link-at, leaving, InOrder, Searched}
 use Rattle.search.proofs.Rowing.{add-rows}
 

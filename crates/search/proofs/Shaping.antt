@@ -13,7 +13,8 @@ use Rattle.model.specs.declared.numbers.Ends.{Ends}
 use Rattle.model.specs.declared.numbers.LinkNo.{LinkNo}
 use Rattle.model.specs.Meaning.{EndsBelow, pair-of, tailOf}
 use Rattle.plan.specs.Makes.{swapped}
-use Rattle.search.specs.Walks.{Walks, Leads-to}
+use Rattle.model.specs.Walks.{Walks}
+use Rattle.search.specs.Walks.{Leads-to}
 use Rattle.search.specs.Searched.{Searched, link-at}
 use Rattle.search.proofs.Turned.{walks-back, walks-turned}
 

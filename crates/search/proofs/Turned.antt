@@ -9,7 +9,7 @@ use Rattle.std.proofs.shelf.Lists.{take-more, map-push, length-map}
 use Rattle.model.specs.declared.numbers.Ends.{Ends}
 use Rattle.model.specs.Meaning.{tailOf, headOf, EndsBelow, pair-of, ends-from}
 use Rattle.plan.specs.Makes.{swapped, getD-swapped}
-use Rattle.search.specs.Walks.{Walks}
+use Rattle.model.specs.Walks.{Walks}
 
 abbrev turned : List Ends → List (ℕ × ℕ)
 turned es = map swapped (map pair-of es)

@@ -4,7 +4,7 @@ use Rattle.model.specs.Meaning.{Graph}
 use Rattle.search.specs.declared.shapes.ShapeFault.{ShapeFault}
 use Rattle.search.specs.declared.shapes.ShapeFault.the-variants.{Memory}
 use Rattle.search.specs.Shapes.{Misshaped}
-use Rattle.search.specs.Walks.{Sound}
+use Rattle.model.specs.Walks.{Sound}
 
 -- want of memory aside, no two faults can be told of one plan
 abbrev pub One-fault : Type 0

@@ -8,7 +8,7 @@ use lib.ListN.{length, getD}
 use Rattle.model.specs.declared.numbers.LinkNo.{LinkNo}
 use Rattle.model.specs.Meaning.{tailOf, headOf}
 use Rattle.search.specs.Joined.{add}
-use Rattle.search.specs.Walks.{Walks}
+use Rattle.model.specs.Walks.{Walks}
 
 -- the number of the link at place i of a list of links
 abbrev pub link-at : List LinkNo → ℕ → ℕ

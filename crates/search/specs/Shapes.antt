@@ -13,7 +13,8 @@ use Rattle.model.specs.Meaning.{Graph, tailOf, headOf}
 use Rattle.search.specs.declared.shapes.ShapeFault.{ShapeFault}
 use Rattle.search.specs.declared.shapes.ShapeFault.the-variants.{EntersFirst, LeavesLast, NotReached, NoWayOut, Memory}
 use Rattle.search.specs.Searched.{InOrder, link-at}
-use Rattle.search.specs.Walks.{Sound, None-in, None-out, Leads-to}
+use Rattle.model.specs.Walks.{Sound}
+use Rattle.search.specs.Walks.{None-in, None-out, Leads-to}
 
 -- the number, the layer and the place of each fault
 abbrev pub shape-refusal : ShapeFault → Option Refusal

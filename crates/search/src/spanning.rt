@@ -8,7 +8,7 @@ ghost use Rattle.std.specs.Vec.{made};
 ghost use Rattle.model.specs.Meaning.{EndsBelow, pair-of};
 ghost use Rattle.search.specs.Copied.{graph-of};
 ghost use Rattle.search.specs.Spans.{Spans};
-ghost use Rattle.search.specs.Walks.{Sound, closed};
+ghost use Rattle.model.specs.Walks.{Sound, closed};
 use crate::arcs::arcs_at_steps;
 use crate::graphs::Graph;
 use crate::trees::Tree;

@@ -8,7 +8,7 @@ use Rattle.model.specs.declared.numbers.Ends.{Ends}
 use Rattle.model.specs.Meaning.{EndsBelow, pair-of}
 use Rattle.search.specs.Copied.{graph-of}
 use Rattle.search.specs.Spans.{Spans}
-use Rattle.search.specs.Walks.{closed}
+use Rattle.model.specs.Walks.{closed}
 use Rattle.search.proofs.Closing.{more, closed-below, connected, made-map}
 use Rattle.search.proofs.spanning.depth_first.Needs as need
 

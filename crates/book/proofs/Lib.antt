@@ -1,1 +1,3 @@
-
+pub mod Logics
+pub mod Alone
+pub mod Bounds

@@ -18,6 +18,9 @@ impl Drop for CursorGuard<'_> {
         ensures { λ _. ⌜ now (self .exit .0) ≡ self .entry .saved ⌝ }
     {
         *self.cursor = self.saved;
-        let CursorGuard { cursor: _, saved: _ } = self;
+        let CursorGuard {
+            cursor: _,
+            saved: _,
+        } = self;
     }
 }

@@ -22,7 +22,7 @@ pub struct Table {
     ghost paired: { length (vec-items marks) ≡ length (vec-items rows) },
     ghost some: { ((i : ℕ) → i < length (vec-items runs) → 1 ≤ getD (vec-items runs) i 0) },
     ghost room: { ((i : ℕ) → i < length (vec-items runs) → i + getD (vec-items runs) i 0 ≤ length (vec-items runs)) },
-    ghost nested: { ((i j : ℕ) → i < length (vec-items runs) → i < j → j < i + getD (vec-items runs) i 0 → j + getD (vec-items runs) j 0 ≤ i + getD (vec-items runs) i 0) },
+    ghost nested: { ((i j : ℕ) → i < j → j < i + getD (vec-items runs) i 0 → j + getD (vec-items runs) j 0 ≤ i + getD (vec-items runs) i 0) },
 }
 
 impl Table {

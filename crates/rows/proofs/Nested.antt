@@ -5,6 +5,7 @@ use mathlib.Core.Logic.{_⊎_, inl, inr}
 use Prim.Native.Nat.{ℕ, _+_, _<_, _≤_}
 use native.Mathlib.Omega.{arith}
 use lib.ListN.{length, getD}
+use Rattle.std.proofs.shelf.Lists.{getD-past}
 use Rattle.std.proofs.shelf.Tests.{cases-lt}
 use Rattle.rows.specs.Runs.{depthAt, RunAt, RunsFrom, NestedRuns}
 
@@ -19,8 +20,8 @@ nested depths runs e told =
     at : (i : ℕ) → i < length runs → RunAt depths i (getD runs i 0)
     at i lt = told i (omega arith) (omega arith)
 
-    inner : (i j : ℕ) → i < length runs → i < j → j < i + getD runs i 0 → j + getD runs j 0 ≤ i + getD runs i 0
-    inner i j li ij jr = go (cases-lt (i + getD runs i 0) (j + getD runs j 0))
+    inner-at : (i j : ℕ) → i < length runs → i < j → j < i + getD runs i 0 → j + getD runs j 0 ≤ i + getD runs i 0
+    inner-at i j li ij jr = go (cases-lt (i + getD runs i 0) (j + getD runs j 0))
       where
         lj : j < length runs
         lj = let r = at i li .room in omega arith
@@ -34,3 +35,11 @@ nested depths runs e told =
             let b = at j lj .deeper (i + getD runs i 0) jr h in
             let c = at i li .ends (omega arith) in
             absurd (omega arith)
+
+    -- past the end there is no run
+    inner : (i j : ℕ) → i < j → j < i + getD runs i 0 → j + getD runs j 0 ≤ i + getD runs i 0
+    inner i j ij jr = pick (cases-lt i (length runs))
+      where
+        pick : (i < length runs) ⊎ (length runs ≤ i) → j + getD runs j 0 ≤ i + getD runs i 0
+        pick (inl li) = inner-at i j li ij jr
+        pick (inr h) = absurd (omega (arith, getD-past runs i 0 h))

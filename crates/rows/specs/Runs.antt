@@ -21,4 +21,4 @@ RunsFrom depths from runs = (i : ℕ) → from ≤ i → i < length depths → R
 pub record NestedRuns (runs : List ℕ) : Type 0 where
   pub some : (i : ℕ) → i < length runs → 1 ≤ getD runs i 0
   pub room : (i : ℕ) → i < length runs → i + getD runs i 0 ≤ length runs
-  pub inner : (i j : ℕ) → i < length runs → i < j → j < i + getD runs i 0 → j + getD runs j 0 ≤ i + getD runs i 0
+  pub inner : (i j : ℕ) → i < j → j < i + getD runs i 0 → j + getD runs j 0 ≤ i + getD runs i 0

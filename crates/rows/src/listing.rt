@@ -118,7 +118,7 @@ pub fn arrange(
     requires order { ⌜ LinksBelow (length (now links)) (now order) ⌝ }
     requires few { ⌜ length (now order) < 2 ^ 15 ⌝ }
     requires classes { ⌜ (length (now classes) ≡ length (now links)) × LinksBelow (length (now links)) (now classes) ⌝ }
-    ensures { λ r. ⌜ made r (λ t. (length (vec-items (t .runs)) ≡ length (vec-items (t .rows))) × NestedRuns (vec-items (t .runs)) × (length (vec-items (t .homes)) ≡ length (now (logics .entry)))) ⌝ }
+    ensures { λ r. ⌜ made r (λ t. (length (vec-items (t .runs)) ≡ length (vec-items (t .rows))) × NestedRuns (vec-items (t .runs)) × (length (vec-items (t .homes)) ≡ length (now (logics .entry))) × (length (vec-items (t .rows)) < 2 ^ 16)) ⌝ }
 {
     let exits = exits(order, classes, heap)?;
     let nesting = nest(links, logics.len(), order, exits.as_slice(), heap)?;

@@ -4,7 +4,7 @@ ghost use lib.ListN.{length};
 ghost use Rattle.std.specs.Of.Vec.{vec-items};
 ghost use Rattle.std.specs.Results.{Cases as ByOk};
 ghost use Rattle.std.specs.Vec.{made};
-ghost use Rattle.book.specs.Opens.{Opened};
+ghost use Rattle.book.specs.Opens.{Opened, Smallest};
 ghost use Rattle.model.specs.Meaning.{Meaning};
 ghost use Rattle.search.specs.Shapes.{Misshaped};
 use crate::books::Book;
@@ -46,6 +46,31 @@ fn logics_of<P: Plan>(plan: &P, heap: Global) -> Result<Vec<Logic>, NoMemory>
 }
 
 impl Book {
+    // The book of the smallest plan, one link from step 0 to step 1: one row, in which both steps are.
+    pub fn new(heap: Global) -> Result<Book, NoMemory>
+        ensures { λ r. ⌜ made r Smallest ⌝ }
+    {
+        let whole = Row {
+            number: RowNo(0),
+            parent: None,
+            kind: Kind::Whole,
+            entry: None,
+            exit: None,
+            inside: 2,
+        };
+        let classes = Vec::from_slice(heap, &[LinkNo(0)])?;
+        let homes = Vec::from_slice(heap, &[RowNo(0), RowNo(0)])?;
+        let rows = Vec::from_slice(heap, &[whole])?;
+        let runs = Vec::from_slice(heap, &[1u16])?;
+        let table = Table::new(rows, runs, heap)?;
+        Ok(Book {
+            classes,
+            homes,
+            table,
+            cursor: Cursor { next: 0 },
+        })
+    }
+
     // The book of a sound plan, its listing at the start.
     fn of<P: Plan>(plan: &P, heap: Global) -> Result<Book, ShapeFault>
         ensures { λ r. ⌜ ByOk r (λ b. Opened (P·Plan .meaning (now (plan .entry))) b) (λ e. Misshaped (P·Plan .meaning (now (plan .entry)) .graph) e) ⌝ }

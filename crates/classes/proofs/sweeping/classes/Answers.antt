@@ -30,8 +30,18 @@ pub add-items : need.add-items
 add-items c =
     let g = c .args .graph .now in
     let t = c .in-Continue-tree .tree in
-    omega (arith, long g (vec-items (c .in-Continue-closed .closed)) (c .in-Continue-closed .ensures tt), g .«few_links», c .len-links .ensures, c .in-Continue-closed .closed .ok .0,
-        c .len .ensures, t .visits .ok .0, t .filled, c .in-Continue-tree .ensures tt .spans .long, g .«few_steps»)
+    omega (
+      arith,
+      long g (vec-items (c .in-Continue-closed .closed)) (c .in-Continue-closed .ensures tt),
+      g .«few_links»,
+      c .len-links .ensures,
+      c .in-Continue-closed .closed .ok .0,
+      c .len .ensures,
+      t .visits .ok .0,
+      t .filled,
+      c .in-Continue-tree .ensures tt .spans .long,
+      g .«few_steps»,
+    )
 
 pub back-links-requires : need.back-links-requires
 back-links-requires c κs =

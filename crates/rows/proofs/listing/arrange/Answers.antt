@@ -7,6 +7,7 @@ use Rattle.std.specs.declared.option.Option.{Option}
 use Rattle.model.specs.declared.numbers.LinkNo.{LinkNo}
 use Rattle.theory.proofs.Elements.{each-some-weaken}
 use Rattle.rows.specs.Bounds.{Below, SomeBelow}
+use Rattle.rows.proofs.Nested.{nested}
 use Rattle.rows.proofs.listing.arrange.Needs as need
 
 pub kinds-requires : need.kinds-requires
@@ -21,3 +22,13 @@ kinds-requires c κs =
       entered = c .in-Continue-nesting .ensures tt .1;
       own = omega (arith, ap length (c .as-slice-5 .ensures .value), c .in-Continue-own .ensures tt);
     }
+
+pub returns : need.returns
+returns c =
+    let r = c .in-Continue-runs .ensures tt in
+    let t = c .in-Continue-table .ensures tt in (
+      omega (arith, r .0, ap length (c .as-slice-7 .ensures .value), t .paired, c .in-Continue-rows .ensures tt),
+      nested (c .as-slice-7 .result .now) _ (r .0) (r .1),
+      omega (arith, c .in-Continue-homes .ensures tt, c .in-Continue-nesting .ensures tt .0),
+      omega (arith, c .in-Continue-rows .ensures tt, t .few, c .in-Continue-nesting .ensures tt .2, c .pre .few, c .in-Continue-in-order .ensures tt .0),
+    )

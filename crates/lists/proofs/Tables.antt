@@ -163,3 +163,18 @@ join-total ls i j a b m z li lj ne ea eb ez le =
     let e : b ≡ getD (set ls j z) i b = eb ∙ sym (getD-set-other ls j i z b ne) in
     let n = ap size ez in
     omega (arith, set-total ls j a z lj ea, set-total (set ls j z) i b m (omega (arith, length-set ls j z)) e)
+
+-- what the answer of a pop says of the list
+pub top-some : {T : Type 0} (x : T) (xs : List T) → Some x ≡ top xs → xs ≡ x ∷ rest xs
+top-some x [] e = let z : _≡_ {A = ℕ} 0 1 = cc in absurd (omega arith)
+top-some x (y ∷ ys) e = let q : x ≡ y = cc in ap (λ t. t ∷ ys) (sym q)
+
+pub top-none : {T : Type 0} (xs : List T) → None ≡ top xs → xs ≡ []
+top-none [] e = refl
+top-none (y ∷ ys) e = let z : _≡_ {A = ℕ} 0 1 = cc in absurd (omega arith)
+
+pub none-popped : {T : Type 0} (cs : List (Cell T)) (ls : List Chain) (rows : ℕ → List T) (j : ℕ) → None ≡ top (rows j) → Rows cs ls (put rows j (rest (rows j))) → Rows cs ls rows
+none-popped cs ls rows j e r =
+    let p = top-none (rows j) e in
+    rows-same cs ls (put rows j (rest (rows j))) rows
+    (λ k. cond-both (eqb k j) (rest (rows j)) (rows k) (λ t. t ≡ rows k) (λ q. ap rest p ∙ sym p ∙ ap rows (sym (eqb-true k j q))) (λ q. refl)) r

@@ -9,6 +9,6 @@ abbrev pub All : {T : Type 0} → (T → Type 0) → List T → Type 0
 All P [] = Unit {0}
 All P (x ∷ xs) = P x × All P xs
 
--- the lists hold items of which P holds, and no others
-abbrev pub Holding : {T : Type 0} → (T → Type 0) → List (Cell T) → List Chain → Type 0
-Holding {T = T} P cs ls = (rows : ℕ → List T) × Rows cs ls rows × ((j : ℕ) → All P (rows j))
+-- the list j holds items of which P j holds, and no others
+abbrev pub Holding : {T : Type 0} → (ℕ → T → Type 0) → List (Cell T) → List Chain → Type 0
+Holding {T = T} P cs ls = (rows : ℕ → List T) × Rows cs ls rows × ((j : ℕ) → All (P j) (rows j))

@@ -1,5 +1,5 @@
 -- What holds of each element, where a list is read, made, pushed to or written.
-use mathlib.Core.Path.{_≡_, sym, _∙_, ap, subst}
+use mathlib.Core.Path.{_≡_, refl, sym, _∙_, ap, subst}
 use mathlib.Core.Bool.{Bool, true, false, cond}
 use mathlib.Core.List.{List, [], _∷_, _++_}
 use mathlib.Core.Logic.{_⊎_, inl, inr}
@@ -8,20 +8,30 @@ use native.Mathlib.Omega.{arith}
 use lib.ListN.{length, getD, set, length-set, replicate}
 use Rattle.std.proofs.shelf.Lists.{getD-append-left, getD-set-same, getD-set-other, getD-default, getD-past, length-push, getD-push, getD-replicate, length-replicate}
 use Rattle.std.proofs.shelf.Tests.{cases-eq, cases-lt}
+use Rattle.std.specs.Options.{valueOr}
 use Rattle.std.specs.declared.option.Option.{Option}
 use Rattle.std.specs.declared.option.Option.the-variants.{None, Some}
 use Rattle.theory.specs.Each.{Each, EachSome}
 
--- an element x that was read at k
+-- an element x that was read at k, where P may go by the place
+pub each-read-at : {X : Type 0} (P : ℕ → X → Type 0) (d : X) (xs : List X) (k : ℕ) (x : X) → ((j : ℕ) → j < length xs → P j (getD xs j d)) → k < length xs → x ≡ getD xs k x → P k x
+each-read-at P d xs k x all lt e = subst (P k) (sym (e ∙ getD-default xs k x d lt)) (all k lt)
+
 pub each-read : {X : Type 0} (P : X → Type 0) (d : X) (xs : List X) (k : ℕ) (x : X) → Each P d xs → k < length xs → x ≡ getD xs k x → P x
-each-read P d xs k x all lt e = subst P (sym (e ∙ getD-default xs k x d lt)) (all k lt)
+each-read P = each-read-at (λ _. P)
+
+-- one element more, where P may go by the place
+pub each-push-at : {X : Type 0} (P : ℕ → X → Type 0) (d : X) (xs : List X) (x : X) → ((k : ℕ) → k < length xs → P k (getD xs k d)) → P (length xs) x → (k : ℕ) → k < length (xs ++ x ∷ []) → P k (getD (xs ++ x ∷ []) k d)
+each-push-at P d xs x all p k lt = go (cases-lt k (length xs))
+  where
+    go : (k < length xs) ⊎ (length xs ≤ k) → P k (getD (xs ++ x ∷ []) k d)
+    go (inl h) = subst (P k) (sym (getD-append-left xs (x ∷ []) d k h)) (all k h)
+    go (inr h) =
+        let e : length xs ≡ k = omega (arith, length-push xs x) in
+        subst (P k) (sym (getD-push xs x d k e)) (subst (λ (j : ℕ). P j x) e p)
 
 pub each-push : {X : Type 0} (P : X → Type 0) (d : X) (xs : List X) (x : X) → Each P d xs → P x → Each P d (xs ++ x ∷ [])
-each-push P d xs x all p k lt = go (cases-lt k (length xs))
-  where
-    go : (k < length xs) ⊎ (length xs ≤ k) → P (getD (xs ++ x ∷ []) k d)
-    go (inl h) = subst P (sym (getD-append-left xs (x ∷ []) d k h)) (all k h)
-    go (inr h) = subst P (sym (getD-push xs x d k (omega (arith, length-push xs x)))) p
+each-push P = each-push-at (λ _. P)
 
 -- after a push, whether it found memory or not
 pub each-pushed : {X : Type 0} (P : X → Type 0) (d : X) (xs ys : List X) (x : X) (b : Bool) → ys ≡ cond b (xs ++ x ∷ []) xs → Each P d xs → P x → Each P d ys
@@ -73,3 +83,11 @@ each-some-none P xs n e k x is = go (cases-lt k n)
 
 pub each-some-weaken : {X : Type 0} (P Q : X → Type 0) (xs : List (Option X)) → ((x : X) → P x → Q x) → EachSome P xs → EachSome Q xs
 each-some-weaken P Q xs f all k x e = f x (all k x e)
+
+-- what was read, or another value if nothing was there
+pub each-some-or : {X : Type 0} (P : X → Type 0) (xs : List (Option X)) (k : ℕ) (o : Option X) (y r : X) → EachSome P xs → k < length xs → o ≡ getD xs k o → P y → r ≡ valueOr o y → P r
+each-some-or P xs k None y r all lt e p is = subst P (sym is) p
+each-some-or P xs k (Some x) y r all lt e p is = subst P (sym is) (each-some-read P xs k (Some x) x all lt e refl)
+
+pub each-nil : {X : Type 0} (P : X → Type 0) (d : X) (xs : List X) → xs ≡ [] → Each P d xs
+each-nil P d xs e k lt = let l : length xs ≡ 0 = ap length e in absurd (omega arith)

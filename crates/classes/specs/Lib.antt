@@ -1,0 +1,4 @@
+pub mod Bounds
+pub mod Named
+pub mod Held
+pub mod Sweeps

@@ -1,0 +1,15 @@
+pub mod Parity
+pub mod Lists
+pub mod Trees
+pub mod Lowest
+pub mod Items
+pub mod Joined
+pub mod Named
+pub mod Carried
+pub mod Built
+pub mod Searched
+pub mod Turns
+pub mod Bridge
+pub mod Crossing
+pub mod Classes
+pub mod Caps

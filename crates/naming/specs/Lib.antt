@@ -1,0 +1,10 @@
+pub mod Brackets
+pub mod Words
+pub mod Names
+pub mod Built
+pub mod Searched
+pub mod Turns
+pub mod Bridge
+pub mod Crossing
+pub mod Classes
+pub mod Caps

@@ -1,0 +1,3 @@
+pub mod Grows
+pub mod Numbers
+pub mod Nested

@@ -1,0 +1,5 @@
+pub mod Bounds
+pub mod Nests
+pub mod Kinds
+pub mod Orders
+pub mod Runs

@@ -1,0 +1,10 @@
+pub mod Rowing
+pub mod Numbers
+pub mod Ancestry
+pub mod Turns
+pub mod Closing
+pub mod Copying
+pub mod Ordering
+pub mod Turned
+pub mod Shaping
+pub mod OneFault

@@ -1,8 +1,8 @@
 -- A text has one answer, and what was written is read.
 use mathlib.Core.Path.{_≡_, refl, sym, ap, subst, _∙_}
-use mathlib.Core.List.{List, [], _∷_, _++_}
-use mathlib.Core.Logic.{_⊎_, inl, inr, ⊎-elim}
-use Prim.Native.Nat.{ℕ, _+_, _<_, _≤_}
+use mathlib.Core.List.{List}
+use mathlib.Core.Logic.{⊎-elim}
+use Prim.Native.Nat.{ℕ, _≤_}
 use native.Mathlib.Omega.{arith}
 use lib.ListN.{length}
 use Rattle.std.specs.declared.option.Option.{Option}
@@ -11,7 +11,7 @@ use Rattle.std.specs.declared.result.Result.{Result}
 use Rattle.std.specs.declared.result.Result.the-variants.{Ok, Err}
 use Rattle.model.specs.Meaning.{Meaning, Limits}
 use Rattle.text.proofs.Answered.{spelling-tells, spelled-is-read, one-answer}
-use Rattle.text.specs.Decoded.{frames-in, Ended, Whole-fault, Read, Decoded}
+use Rattle.text.specs.Decoded.{frames-in, Ended, Whole-fault}
 use Rattle.text.specs.Spelling.{Spells}
 use Rattle.text.specs.declared.decoding.Frames.{Frames}
 use Rattle.text.specs.declared.faults.TextFault.{TextFault}
@@ -20,7 +20,7 @@ use Rattle.plan.specs.Checks.{Bounded, Begins, Completes, Unfinished, end-faul
 use Rattle.plan.specs.Laws.{Writing-tells, Written-is-read, One-reading}
 use Rattle.plan.specs.Reading.{Stray, Cut-short, Unmade, Fault-in, Refused, Reading, Gives-back}
 use Rattle.plan.specs.Refused.{plan-refusal}
-use Rattle.plan.specs.Writing.{head-frame, frames-of}
+use Rattle.plan.specs.Writing.{frames-of}
 use Rattle.plan.specs.declared.faults.PlanFault.{PlanFault}
 use Rattle.plan.specs.declared.faults.PlanFault.the-variants.{Text, Memory}
 use Rattle.plan.proofs.Ended.{ended}

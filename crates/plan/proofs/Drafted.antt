@@ -1,10 +1,8 @@
 -- A draft with one frame more, and at the end.
 use mathlib.Core.Path.{_≡_, refl, sym, ap, subst, _∙_}
-use mathlib.Core.Bool.{true, false}
 use mathlib.Core.List.{List, [], _∷_, _++_, map, append-nil, append-assoc}
-use mathlib.Core.Logic.{_⊎_, inl, inr, ⊎-elim}
+use mathlib.Core.Logic.{inl, inr, ⊎-elim}
 use Prim.Native.Nat.{ℕ, _+_, _*_, _/_, _%_, _<_, _≤_}
-use native.Mathlib.Nat.{not-suc-le-zero}
 use native.Mathlib.Omega.{arith}
 use lib.ListN.{length, getD}
 use Rattle.std.proofs.shelf.Lists.{length-map, length-push, map-push, getD-append-left, getD-push, nil-from-length}
@@ -12,8 +10,8 @@ use Rattle.std.proofs.shelf.Tests.{cases-lt}
 use Rattle.std.specs.Of.Vec.{vec-items}
 use Rattle.std.specs.declared.alloc.Global.{Global}
 use Rattle.std.specs.declared.option.Option.{Option}
-use Rattle.std.specs.declared.option.Option.the-variants.{None, Some}
-use Rattle.std.specs.declared.result.Result.the-variants.{Ok, Err}
+use Rattle.std.specs.declared.option.Option.the-variants.{Some}
+use Rattle.std.specs.declared.result.Result.the-variants.{Ok}
 use Rattle.std.specs.declared.vec.Vec.{Vec}
 use Rattle.model.specs.Meaning.{Meaning, EndsBelow, pair-of}
 use Rattle.model.specs.declared.numbers.Ends.{Ends}
@@ -23,7 +21,7 @@ use Rattle.text.specs.declared.lines.Frame.{Frame}
 use Rattle.plan.specs.Checks.{Bounded, Begun, written, Follows, number-at, steps-told, links-told, Good-ends, Passes, First, Faulty, Unfinished}
 use Rattle.plan.specs.Drafts.{draft-meaning, told-in, told-by, Stage, Kept, Takes, Two-steps, Step-logic}
 use Rattle.plan.specs.Makes.{table-meaning}
-use Rattle.plan.specs.Writing.{two-bytes, two-numbers, head-frame, step-frame, link-frame, frames-of}
+use Rattle.plan.specs.Writing.{two-bytes, two-numbers, head-frame, step-frame, link-frame}
 use Rattle.plan.specs.declared.faults.PlanFault.{PlanFault}
 use Rattle.plan.specs.declared.faults.PlanFault.the-variants.{TooManyLinks, NoStep, Incomplete, BadEnds}
 use Rattle.plan.specs.declared.gateway.drafting.Draft.{Draft}

@@ -2,18 +2,18 @@
 use mathlib.Core.Path.{_≡_, refl, sym, ap, subst, _∙_}
 use mathlib.Core.List.{List, [], _∷_, _++_, map}
 use mathlib.Core.Logic.{_⊎_, inl, inr, ⊎-elim}
-use Prim.Native.Nat.{ℕ, _+_, _*_, _/_, _%_, _<_, _≤_}
+use Prim.Native.Nat.{ℕ, _+_, _<_, _≤_}
 use native.Mathlib.Omega.{arith}
 use lib.ListN.{length, getD}
 use Rattle.std.proofs.shelf.Lists.{length-append}
 use Rattle.std.specs.declared.option.Option.{Option}
 use Rattle.std.specs.declared.option.Option.the-variants.{None, Some}
 use Rattle.std.specs.shelf.Lists.{All}
-use Rattle.model.specs.Meaning.{Meaning, Limits}
+use Rattle.model.specs.Meaning.{Meaning}
 use Rattle.model.specs.Words.{logic-number}
 use Rattle.model.specs.declared.numbers.Logic.{Logic}
 use Rattle.model.specs.declared.numbers.Logic.the-variants.{One, All as Every}
-use Rattle.plan.specs.Checks.{Bounded, Begins, Passes, Completes, First, Faulty, line-faults, end-faults}
+use Rattle.plan.specs.Checks.{Begins, Passes, First, Faulty, line-faults}
 use Rattle.plan.specs.Reading.{Stray}
 use Rattle.plan.specs.Writing.{two-numbers, head-frame, step-frame, link-frame, frames-of}
 use Rattle.plan.specs.declared.faults.PlanFault.{PlanFault}

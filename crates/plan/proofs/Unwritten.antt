@@ -1,20 +1,18 @@
 -- Frames tell what they were written from.
-use mathlib.Core.Path.{_≡_, refl, sym, ap, subst, _∙_}
+use mathlib.Core.Path.{_≡_, refl, sym, ap, _∙_}
 use mathlib.Core.List.{List, [], _∷_, _++_, map}
 use mathlib.Core.Logic.{_⊎_, inl, inr, ⊎-elim}
-use Prim.Native.Nat.{ℕ, _+_, _*_, _/_, _%_, _<_, _≤_}
+use Prim.Native.Nat.{ℕ, _+_, _/_, _%_, _<_}
 use native.Mathlib.Omega.{arith}
 use lib.ListN.{length, getD}
 use Rattle.std.proofs.shelf.Elements.{all-append, all-from-getD, all-map}
-use Rattle.std.proofs.shelf.Lists.{length-append}
 use Rattle.std.specs.shelf.Lists.{All}
-use Rattle.model.specs.Meaning.{Meaning, Limits, EndsBelow}
-use Rattle.model.specs.Words.{logic-number}
+use Rattle.model.specs.Meaning.{Meaning, Limits}
 use Rattle.model.specs.declared.numbers.Logic.{Logic}
 use Rattle.model.specs.declared.numbers.Logic.the-variants.{One, All as Every}
 use Rattle.text.specs.Decoded.{Is-frame}
 use Rattle.plan.specs.Checks.{Bounded}
-use Rattle.plan.specs.Writing.{two-bytes, two-numbers, head-frame, step-frame, link-frame, frames-of}
+use Rattle.plan.specs.Writing.{two-numbers, head-frame, step-frame, link-frame, frames-of}
 
 two-same : (a b c d : ℕ) → two-numbers a b ≡ two-numbers c d → (a ≡ c) × (b ≡ d)
 two-same a b c d e =

@@ -13,7 +13,7 @@ use Rattle.plan.specs.Writing.{frames-of}
 use Rattle.plan.specs.declared.faults.PlanFault.{PlanFault}
 use Rattle.plan.specs.declared.faults.PlanFault.the-variants.{Text, KindNotAllowed, WrongLength, BadLogic, TooManySteps, TooManyLinks, NoStep, Incomplete, BadEnds, Memory}
 
--- What the frames so far have told is nothing before the head, and then the meaning so far. Its bounds hold at every stage.
+-- What frames have told is nothing before the head, and then the meaning so far, whose bounds hold at every stage.
 pub record Bounded (μ : Meaning) : Type 0 where
   pub few-steps : μ .graph .steps ≤ 1024
   pub few-links : length (μ .graph .links) ≤ 2048
@@ -53,7 +53,7 @@ field-count kind = cond (eqb kind 0x10) 1 4
 abbrev pub number-at : List ℕ → ℕ → ℕ
 number-at fields k = getD fields k 0 * 256 + getD fields (k + 1) 0
 
--- what each fault of a line is not found for: the next frame, of this kind and with these fields, passes the fault's check
+-- each fault of a line has a check: when the next frame, of this kind and with these fields, passes it
 abbrev pub Passes : Option Meaning → ℕ → List ℕ → PlanFault → Type 0
 Passes told kind fields (KindNotAllowed line) = Follows told kind
 Passes told kind fields (WrongLength line) = length fields ≡ field-count kind
@@ -73,7 +73,7 @@ Good-ends None = ⊥
 Good-ends (Some μ) =
     (μ .graph .first < μ .graph .steps) × (μ .graph .last < μ .graph .steps) × (μ .graph .first ≡ μ .graph .last → ⊥)
 
--- the same at the end, of what all frames have told; before the head there are no steps
+-- each fault of the end has one too: when what all frames have told passes it; without a head there are no steps
 abbrev pub Completes : Option Meaning → PlanFault → Type 0
 Completes told (Incomplete line) = (2 ≤ steps-told told) × (1 ≤ links-told told)
 Completes told BadEnds = Good-ends told

@@ -1,14 +1,13 @@
 -- The meanings of the makes of plan: that of the smallest plan, and that of a turned one.
-use mathlib.Core.Path.{_≡_, refl, sym, ap}
+use mathlib.Core.Path.{_≡_, refl, sym}
 use mathlib.Core.List.{List, [], _∷_, map}
-use Prim.Native.Nat.{ℕ, zero, suc, _<_}
-use native.Mathlib.Omega.{arith}
+use Prim.Native.Nat.{ℕ, zero, suc}
 use lib.ListN.{length, getD}
 use Rattle.std.proofs.shelf.Lists.{length-map}
 use Rattle.model.specs.declared.numbers.Ends.{Ends}
 use Rattle.model.specs.declared.numbers.Logic.{Logic}
 use Rattle.model.specs.declared.numbers.Logic.the-variants.{One}
-use Rattle.model.specs.Meaning.{Graph, Meaning, Limits, EndsBelow, pair-of, ends-from, tailOf, headOf}
+use Rattle.model.specs.Meaning.{Meaning, Limits, EndsBelow, pair-of, ends-from, tailOf, headOf}
 
 -- the meaning of a table of links and logics
 abbrev pub table-meaning : List Ends → List Logic → ℕ → ℕ → Meaning

@@ -1,9 +1,8 @@
 -- What a gateway table means. A file of its own: that of the struct, with its ghost fields, cannot import it.
 use mathlib.Core.Path.{refl}
-use mathlib.Core.List.{map}
 use Rattle.std.proofs.shelf.Lists.{length-map}
 use Rattle.std.specs.Of.Vec.{vec-items}
-use Rattle.model.specs.Meaning.{Meaning, Limits, pair-of}
+use Rattle.model.specs.Meaning.{Meaning, Limits}
 use Rattle.plan.specs.declared.gateway.GatewayTable.{GatewayTable}
 use Rattle.plan.specs.Makes.{table-meaning}
 

@@ -1,6 +1,4 @@
-use mathlib.Core.Path.{_∙_, sym}
 use Rattle.std.proofs.shelf.Lists.{length-map}
-use Rattle.plan.specs.Makes.{swapped}
 use Rattle.plan.proofs.turning.TurnedPlan.link_count.Needs as need
 
 pub returns : need.returns

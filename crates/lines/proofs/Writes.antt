@@ -34,10 +34,10 @@ pub same : (l : List ℕ) (i : ℕ) (xs ys m : List ℕ) (j : ℕ) → xs ≡ ys
 same l i xs ys m j e p = record { wrote = p .wrote ∙ ap (sets l i) e; end = p .end ∙ ap (λ (t : List ℕ). i + length t) e }
 
 -- a line that is written from the front on leaves the rest as it was
-pub lined : (l xs m : List ℕ) (j : ℕ) → 64 ≤ length l → j ≤ 64 → Wrote l 0 xs m j → (64 ≤ length l) × (j ≡ length xs) × (m ≡ xs ++ drop (length xs) l)
+pub lined : (l xs m : List ℕ) (j : ℕ) → 64 ≤ length l → j ≤ 64 → Wrote l 0 xs m j → (64 ≤ length l) × (j ≤ 64) × (j ≡ length xs) × (m ≡ xs ++ drop (length xs) l)
 lined l xs m j h le p =
     let e : j ≡ length xs = omega (arith, p .end) in
-    (h, e, p .wrote ∙ sets-eq xs l 0 (omega arith) ∙ ap (λ (k : ℕ). xs ++ drop k l) (zero-add (length xs)))
+    (h, le, e, p .wrote ∙ sets-eq xs l 0 (omega arith) ∙ ap (λ (k : ℕ). xs ++ drop k l) (zero-add (length xs)))
 
 pub digits-one : (n : ℕ) → n < 10 → decimal n ≡ (48 + n) ∷ []
 digits-one n h = decimal-digit n h

@@ -51,12 +51,12 @@ refusal-bytes r =
     ++ ((layer-word (r .layer) ++ blank ∷ [])
     ++ place-bytes (r .place)))
 
--- a line goes into the front of a buffer of 64 bytes or more, its length is answered, and the rest of the buffer is as it was;
+-- a line goes into the front of a buffer of 64 bytes or more, its length, never more than 64, is answered, and the rest of the buffer is as it was;
 -- a shorter buffer is refused and stays as it was
 abbrev pub Lined : {E : Type 0} → List ℕ → List ℕ → Result ℕ E → List ℕ → Type 0
 Lined line old r new =
     Cases r
-    (λ n. (64 ≤ length old) × (n ≡ length line) × (new ≡ line ++ drop (length line) old))
+    (λ n. (64 ≤ length old) × (n ≤ 64) × (n ≡ length line) × (new ≡ line ++ drop (length line) old))
     (λ _. (length old < 64) × (new ≡ old))
 
 -- at i the bytes xs are written over those of l, which leaves m, and j is the place after them

@@ -120,6 +120,7 @@ fn row_of(order: &[usize], fragment: Option<usize>) -> RowNo {
 
 #[derive(Drop)]
 pub struct Listing {
+    pub steps: u16,
     pub classes: Vec<LinkNo>,
     pub rows: Vec<Row>,
     insides: Vec<StepSet>,
@@ -167,6 +168,7 @@ impl Listing {
             inside: sketch.steps,
         };
         Ok(Listing {
+            steps: sketch.steps,
             classes: Vec::new(heap),
             rows: vec![in heap; whole]?,
             insides: vec![in heap; StepSet::below(sketch.steps)]?,

@@ -7,20 +7,11 @@ use std::io::Read;
 use std::io::Write;
 
 // One byte more than a text may have: enough to know that it is too long.
-const ENOUGH: usize = 65536;
+const ENOUGH: u64 = 65536;
 
 fn read_text(rt: &LibcRuntime) -> io::Result<Vec<u8>> {
     let mut text = Vec::new(rt.alloc());
-    let mut input = rt.stdin();
-    let mut chunk = [0u8; 4096];
-    while text.len() < ENOUGH {
-        let room = (ENOUGH - text.len()).min(4096);
-        let count = input.read(&mut chunk[0..room])?;
-        if count == 0 {
-            break;
-        }
-        text.extend_from_slice(&chunk[0..count])?;
-    }
+    rt.stdin().take(ENOUGH).read_to_end(&mut text)?;
     Ok(text)
 }
 

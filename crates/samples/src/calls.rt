@@ -21,6 +21,7 @@ use model::RefusalPartialEq;
 use model::StepNo;
 use plan::GatewayTablePlan;
 use plan::PlanFaultDebug;
+use lists::NoMemoryDebug;
 use search::ShapeFaultDebug;
 use std::alloc::Global;
 use std::test::*;

@@ -9,6 +9,7 @@ use model::Row;
 use plan::GatewayTable;
 use plan::GatewayTablePlan;
 use plan::PlanFaultDebug;
+use lists::NoMemoryDebug;
 use search::ShapeFaultDebug;
 use std::alloc::AllocError;
 use std::alloc::Global;

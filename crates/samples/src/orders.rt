@@ -8,6 +8,7 @@ use plan::GatewayTable;
 use plan::GatewayTablePlan;
 use plan::Turned;
 use plan::TurnedPlan;
+use lists::NoMemoryDebug;
 use search::ShapeFaultDebug;
 use std::alloc::AllocError;
 use std::alloc::Global;

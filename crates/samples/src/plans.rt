@@ -10,6 +10,7 @@ use model::StepNo;
 use plan::GatewayTablePlan;
 use plan::Turned;
 use plan::TurnedPlan;
+use lists::NoMemoryDebug;
 use search::ShapeFaultDebug;
 use std::alloc::Global;
 use std::test::*;

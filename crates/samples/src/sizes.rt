@@ -13,6 +13,7 @@ use model::RowNoDebug;
 use model::RowNoPartialEq;
 use model::RowPartialEq;
 use plan::GatewayTablePlan;
+use lists::NoMemoryDebug;
 use search::ShapeFaultDebug;
 use std::alloc::AllocError;
 use std::alloc::Global;

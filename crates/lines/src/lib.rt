@@ -1,4 +1,5 @@
 // The line of a row and the line of a refusal, written into a buffer that the caller lends.
+pub mod laws;
 mod putting;
 pub mod writing;
 

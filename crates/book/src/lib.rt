@@ -1,4 +1,6 @@
 // The book of a plan: its rows in order, the class of each link, and the place of the listing.
+#![tactic(auto)]
+
 pub mod books;
 pub mod faults;
 pub mod places;

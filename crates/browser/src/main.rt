@@ -1,4 +1,6 @@
 // The browser: reads a table from standard input, and writes the line of every row, or one refusal line.
+#![tactic(auto)]
+
 use anyhow::anyhow;
 use listing::answer;
 use lists::NoMemory;

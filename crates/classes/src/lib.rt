@@ -1,4 +1,6 @@
 // The classes of a plan's links, by the brackets of a depth-first tree (Johnson, Pearson, Pingali 1994).
+#![tactic(auto)]
+
 pub mod brackets;
 pub mod levels;
 pub mod naming;

@@ -1,4 +1,6 @@
 // The line of a row and the line of a refusal, written into a buffer that the caller lends.
+#![tactic(auto)]
+
 pub mod laws;
 mod putting;
 pub mod writing;

@@ -1,4 +1,6 @@
 // From the bytes of a text to the bytes of the answer: the lines of all rows, or one refusal line.
+#![tactic(auto)]
+
 pub mod answering;
 pub mod faults;
 

@@ -1,4 +1,6 @@
 // Joinable lists, one for each index, whose cells stand in one arena.
+#![tactic(auto)]
+
 pub mod calls;
 pub mod cells;
 pub mod chaining;

@@ -1,4 +1,6 @@
 // The vocabulary of the plan splitter: numbers, logics, kinds, rows and refusals.
+#![tactic(auto)]
+
 pub mod kinds;
 pub mod numbers;
 pub mod refusals;

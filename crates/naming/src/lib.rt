@@ -1,4 +1,6 @@
 // The method of classes: brackets of a spanning tree, lists with caps, and names. Each theorem is the contract of a function, so that the crate is proved only with its proof.
+#![tactic(auto)]
+
 ghost use Rattle.naming.specs.Classes.{NamesTellClasses, TreeLinksBracketed};
 ghost use Rattle.naming.specs.Brackets.{BracketsTell};
 ghost use Rattle.naming.specs.Names.{NamesTell, CarriedTell};

@@ -1,4 +1,6 @@
 // Compares the book with the reference, over plans made by chance.
+#![tactic(auto)]
+
 mod comparing;
 mod dice;
 mod drafts;

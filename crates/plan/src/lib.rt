@@ -1,4 +1,6 @@
 // Plans: the six questions that tell a plan's meaning, the gateway table, and the turned plan.
+#![tactic(auto)]
+
 pub mod asking;
 pub mod faults;
 pub mod gateway;

@@ -1,4 +1,6 @@
 // Classes, fragments and rows of a small plan, straight from their definitions: slow, plain, and apart from the method that the book goes by.
+#![tactic(auto)]
+
 pub mod fragments;
 pub mod listing;
 pub mod sets;

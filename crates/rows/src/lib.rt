@@ -1,4 +1,6 @@
 // From the classes of a plan's links to its rows: canonical fragments, how they nest, their kinds, and their order.
+#![tactic(auto)]
+
 pub mod arranging;
 pub mod counting;
 pub mod kinding;

@@ -1,4 +1,6 @@
 // Tests of the whole way from texts to rows and lines, on plans that were worked out by hand.
+#![tactic(auto)]
+
 #[cfg(test)]
 mod calls;
 #[cfg(test)]

@@ -1,4 +1,6 @@
 // The sample plans, and a second look at the definitions. Each theorem is the contract of a function, so that the crate is proved only with its proof.
+#![tactic(auto)]
+
 ghost use Rattle.samples_theory.specs.Samples.{SamplesStand, BookHappens};
 ghost use Rattle.samples_theory.specs.Second.{InsideNotDominance, PairNotCanonical, ClassesDiffer, BothAreNeeded, ReturnNamesNone, EqualEndsBranch, OwnIsMore, SoundnessRefuses, ClassesInterleave, FurtherStand};
 

@@ -1,4 +1,6 @@
 // Searches of a plan: its graph in arrays, the order of search, its soundness, and the depth-first tree.
+#![tactic(auto)]
+
 mod arcs;
 mod frontier;
 pub mod graphs;

@@ -1,3 +1,5 @@
 // What the searches answer of small plans, sound and unsound.
+#![tactic(auto)]
+
 #[cfg(test)]
 mod tests;

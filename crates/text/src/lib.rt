@@ -1,4 +1,6 @@
 // Hex text to frames: one frame a line, two upper-case digits a byte, each line ended by a line feed.
+#![tactic(auto)]
+
 pub mod decoding;
 pub mod digits;
 pub mod faults;

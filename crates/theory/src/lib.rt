@@ -1,4 +1,6 @@
 // The theorems on walks, classes, fragments, listings and calls. Each is the contract of a function, so that the crate is proved only with its proof.
+#![tactic(auto)]
+
 ghost use Rattle.theory.specs.Cuts.{ReachDecided, ShareDecided, ShareIsCut, ClassNamed, EqualEndsAlone};
 ghost use Rattle.theory.specs.Orders.{ClassInLine, LeaderFirst, FragmentsNeighbours};
 ghost use Rattle.theory.specs.Insides.{InsideCutOff, FragmentsNest, InsideTells, PlainAlone, OwnBranches};

@@ -3,15 +3,15 @@ use Rattle.std.proofs.lemmas.List.{take_all}
 use Rattle.text.specs.Decoded.{line_feeds}
 use Rattle.text.proofs.Steps.{feeds_yes, feeds_no}
 use Rattle.text.proofs.decoding.count_line_feeds.Goals as goal
-use Rattle.text.proofs.decoding.count_line_feeds.Goals.{then-b-eq-LINE-FEED, else-b-eq-LINE-FEED}
+use Rattle.text.proofs.decoding.count_line_feeds.Goals.{then-b-eq-LINE_FEED, else-b-eq-LINE_FEED}
 
 pub loop-b-preserved : goal.loop-b-preserved
 loop-b-preserved c =
     let text = c.args.text.now in
     let i = c.loop-b.b-index in
-    elim c.if-b-eq-LINE-FEED.branch [
-      | then-b-eq-LINE-FEED w ↦ let e = feeds_yes text i c.loop-b-test.true w.if-b-eq-LINE-FEED.true in (omega (arith, w.count-is), omega (arith, e, w.count-is))
-      | else-b-eq-LINE-FEED w ↦ let e = feeds_no text i c.loop-b-test.true w.if-b-eq-LINE-FEED.false in (omega (arith, w.count-is), omega (arith, e, w.count-is))
+    elim c.if-b-eq-LINE_FEED.branch [
+      | then-b-eq-LINE_FEED w ↦ let e = feeds_yes text i c.loop-b-test.true w.if-b-eq-LINE-FEED.true in (omega (arith, w.count-is), omega (arith, e, w.count-is))
+      | else-b-eq-LINE_FEED w ↦ let e = feeds_no text i c.loop-b-test.true w.if-b-eq-LINE-FEED.false in (omega (arith, w.count-is), omega (arith, e, w.count-is))
     ]
 
 pub returns : goal.returns

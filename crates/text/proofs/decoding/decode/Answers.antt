@@ -5,7 +5,7 @@ use Rattle.text.proofs.decoding.decode.Goals as goal
 
 pub loop-end-init : goal.loop-end-init
 loop-end-init c =
-    let ok = c.in-ok-check-whole.ensures in
+    let ok = c.in_ok-check_whole.ensures in
     at_start c.args.text.now ok.0 ok.1 (vec_items c.new-frames.result) c.new-frames.ensures.items
 
 pub returns-in-Err : goal.returns-in-Err
@@ -20,12 +20,12 @@ loop-end-preserved c =
     let rest = c.loop-end.rest.now in
     let i = c.in-Some.end in
     let feed = c.in-Some.ensures in
-    let some : 0 < i = omega (arith, c.in-default-check-line.ensures.some, length-take (i - 0) rest) in
-    one_more c.args.text.now (vec_items c.loop-end.frames) rest c.loop-end.line c.loop-end.invariant i c.in-ok-frame-of.field-0
-    feed.0 feed.1 some c.in-ok-frame-of.ensures (vec_items c.push.new.self) _ c.in-ok-push.ensures.items (take_rest rest (i + 1))
+    let some : 0 < i = omega (arith, c.in_default-check_line.ensures.some, length-take (i - 0) rest) in
+    one_more c.args.text.now (vec_items c.loop-end.frames) rest c.loop-end.line c.loop-end.invariant i c.in_ok-frame_of.field-0
+    feed.0 feed.1 some c.in_ok-frame_of.ensures (vec_items c.push.new.self) _ c.in_ok-push.ensures.items (take_rest rest (i + 1))
 
 pub returns : goal.returns
 returns c =
     let rest = c.loop-end.rest.now in
     stopped c.args.text.now c.loop-end.frames rest c.loop-end.line (Ok tt) c.loop-end.invariant
-    (at_end c.args.text.now (vec_items c.loop-end.frames) rest c.loop-end.line c.loop-end.invariant c.in-default.ensures)
+    (at_end c.args.text.now (vec_items c.loop-end.frames) rest c.loop-end.line c.loop-end.invariant c.in_default.ensures)

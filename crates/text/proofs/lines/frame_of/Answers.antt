@@ -6,7 +6,7 @@ use Rattle.text.proofs.lines.frame_of.Goals as goal
 pub loop-k-preserved : goal.loop-k-preserved
 loop-k-preserved c =
     pair_more c.byte-kind.result (vec_items c.loop-k.fields) (vec_items c.push.new.self) c.args.digits.now c.loop-k.k c.byte.result
-    c.loop-k.invariant c.in-ok-push.ensures.items (search rules) (omega arith) c.byte.ensures
+    c.loop-k.invariant c.in_ok-push.ensures.items (search rules) (omega arith) c.byte.ensures
 
 pub returns : goal.returns
 returns c = record {

@@ -5,8 +5,8 @@ use Rattle.lists.proofs.cells.Arena.join.Goals as goal
 pub index-c-requires : goal.index-c-requires
 index-c-requires g c = c.requires.within _ c.in-Some.is
 
-pub index-mut-requires : goal.index-mut-requires
-index-mut-requires g c = c.requires.within _ c.in-Some.is
+pub index_mut-requires : goal.index_mut-requires
+index_mut-requires g c = c.requires.within _ c.in-Some.is
 
 pub returns-in-None : goal.returns-in-None
 returns-in-None g c =

@@ -6,8 +6,8 @@ use Rattle.lists.proofs.cells.Arena.pop_front.Goals as goal
 pub index-c-requires : goal.index-c-requires
 index-c-requires g c = (c.requires.within _ c.in-Some.is).0
 
-pub overflow-sub-result : goal.overflow-sub-result
-overflow-sub-result g c = omega (arith, (c.requires.within _ c.in-Some.is).1)
+pub overflow_sub-result : goal.overflow_sub-result
+overflow_sub-result g c = omega (arith, (c.requires.within _ c.in-Some.is).1)
 
 pub returns-in-None : goal.returns-in-None
 returns-in-None g c = record { popped = λ xs h. empty_front _ _ xs c.in-None.is h; apart = tt; size = tt }

@@ -22,16 +22,15 @@ join-m-requires g c =
       fits = omega (arith, s.counted, s.few, two_total s.chains.items c.args.i c.args.j _ _ li lj c.requires.other c.index-a.ensures c.index-b.ensures);
     }
 
-pub invariant-of-self : goal.invariant-of-self
-invariant-of-self g c =
+pub invariant_of-self : goal.invariant_of-self
+invariant_of-self g c =
     let s = c.args.self.now in
     let li : c.args.i < length s.chains.items = omega (arith, s.chains.ok.0) in
     let lj : c.args.j < length s.chains.items = omega (arith, s.chains.ok.0) in
-    let same = c.join-m.ensures.cells in (
-      ok_map _ _ _ _ (λ rows. put (put rows c.args.j []) c.args.i (rows c.args.j ++ rows c.args.i))
-          (join_rows _ _ _ c.args.i c.args.j _ _ c.join-m.result _ li lj c.requires.other c.index-a.ensures c.index-b.ensures c.empty.ensures c.join-m.ensures.joined c.join-m.ensures.frame c.join-m.ensures.apart) s.held,
-      (
-        omega (arith, s.counted, join_total s.chains.items c.args.i c.args.j _ _ c.join-m.result _ li lj c.requires.other c.index-a.ensures c.index-b.ensures c.empty.ensures c.join-m.ensures.size),
-        (omega (arith, s.few), tt),
-      ),
-    )
+    let same = c.join-m.ensures.cells in record {
+      held =
+          ok_map _ _ _ _ (λ rows. put (put rows c.args.j []) c.args.i (rows c.args.j ++ rows c.args.i))
+          (join_rows _ _ _ c.args.i c.args.j _ _ c.join-m.result _ li lj c.requires.other c.index-a.ensures c.index-b.ensures c.empty.ensures c.join-m.ensures.joined c.join-m.ensures.frame c.join-m.ensures.apart) s.held;
+      counted = omega (arith, s.counted, join_total s.chains.items c.args.i c.args.j _ _ c.join-m.result _ li lj c.requires.other c.index-a.ensures c.index-b.ensures c.empty.ensures c.join-m.ensures.size);
+      few = omega (arith, s.few);
+    }

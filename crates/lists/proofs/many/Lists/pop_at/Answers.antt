@@ -3,8 +3,8 @@ use Rattle.lists.specs.Rows.{put, rest}
 use Rattle.lists.proofs.Tables.{ok_front, ok_map, pop_rows, set_total}
 use Rattle.lists.proofs.many.Lists.pop_at.Goals as goal
 
-pub pop-front-requires : goal.pop-front-requires
-pop-front-requires g c =
+pub pop_front-requires : goal.pop_front-requires
+pop_front-requires g c =
     let s = c.args.self.now in
     let lt : c.args.j < length s.chains.items = omega (arith, s.chains.ok.0) in
     record { within = λ k q. let w = ok_front _ _ c.args.j c.index-list.result.now lt c.index-list.ensures s.held k q in (omega (arith, s.arena.cells.ok.0), w.1) }
@@ -19,11 +19,12 @@ returns-in-Some g c =
       total = omega (arith, c.in-Some.ensures.size, set_total s.chains.items c.args.j _ c.in-Some.got.1 lt c.index-list.ensures);
     }
 
-pub invariant-of-self : goal.invariant-of-self
-invariant-of-self g c =
+pub invariant_of-self : goal.invariant_of-self
+invariant_of-self g c =
     let s = c.args.self.now in
-    let lt : c.args.j < length s.chains.items = omega (arith, s.chains.ok.0) in (
-      ok_map _ _ _ _ (λ rows. put rows c.args.j (rest (rows c.args.j)))
-          (λ rows r. (pop_rows _ _ c.args.j _ c.in-Some.got.1 c.in-Some.got.0 lt c.index-list.ensures c.in-Some.ensures.popped c.in-Some.ensures.apart rows r).1) s.held,
-      (omega (arith, s.counted, c.in-Some.ensures.size, set_total s.chains.items c.args.j _ c.in-Some.got.1 lt c.index-list.ensures), (s.few, tt)),
-    )
+    let lt : c.args.j < length s.chains.items = omega (arith, s.chains.ok.0) in record {
+      held = ok_map _ _ _ _ (λ rows. put rows c.args.j (rest (rows c.args.j)))
+          (λ rows r. (pop_rows _ _ c.args.j _ c.in-Some.got.1 c.in-Some.got.0 lt c.index-list.ensures c.in-Some.ensures.popped c.in-Some.ensures.apart rows r).1) s.held;
+      counted = omega (arith, s.counted, c.in-Some.ensures.size, set_total s.chains.items c.args.j _ c.in-Some.got.1 lt c.index-list.ensures);
+      few = s.few;
+    }

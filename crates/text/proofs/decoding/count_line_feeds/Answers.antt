@@ -10,8 +10,8 @@ loop-b-preserved c =
     let text = c.args.text.now in
     let i = c.loop-b.b-index in
     elim c.if-b-eq-LINE_FEED.branch [
-      | then-b-eq-LINE_FEED w ↦ let e = feeds_yes text i c.loop-b-test.true w.if-b-eq-LINE-FEED.true in (omega (arith, w.count-is), omega (arith, e, w.count-is))
-      | else-b-eq-LINE_FEED w ↦ let e = feeds_no text i c.loop-b-test.true w.if-b-eq-LINE-FEED.false in (omega (arith, w.count-is), omega (arith, e, w.count-is))
+      | then-b-eq-LINE_FEED w ↦ let e = feeds_yes text i c.loop-b-test.true w.if-b-eq-LINE_FEED.true in (omega (arith, w.count-is), omega (arith, e, w.count-is))
+      | else-b-eq-LINE_FEED w ↦ let e = feeds_no text i c.loop-b-test.true w.if-b-eq-LINE_FEED.false in (omega (arith, w.count-is), omega (arith, e, w.count-is))
     ]
 
 pub returns : goal.returns

@@ -54,7 +54,7 @@ impl GatewayTable {
         ensures reads { Reading text.now (meaning_of self.old) result (meaning_of self.new) }
         ensures gives_back { GivesBack text.now result (meaning_of self.new) }
     {
-        let table = table_of(text, self.links.allocator())?;
+        let table = table_of(text, *self.links.allocator())?;
         *self = table;
         Ok(())
     }

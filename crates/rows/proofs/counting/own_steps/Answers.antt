@@ -8,8 +8,8 @@ index-before-requires c =
     let lt : c.loop-step.step < length (vec_items n.homes) = omega (arith, c.requires.logics, c.loop-step-test.true) in
     omega (arith, c.loop-step.invariant, n.fragments.ok.0, each_read (λ k. k < length (vec_items n.fragments)) 0 (vec_items n.homes) _ _ n.homed lt c.index.ensures)
 
-pub index-mut-requires : goal.index-mut-requires
-index-mut-requires c =
+pub index_mut-requires : goal.index_mut-requires
+index_mut-requires c =
     let n = c.args.nesting.now in
     let lt : c.loop-step.step < length (vec_items n.homes) = omega (arith, c.requires.logics, c.loop-step-test.true) in
     omega (arith, c.loop-step.invariant, n.fragments.ok.0, each_read (λ k. k < length (vec_items n.fragments)) 0 (vec_items n.homes) _ _ n.homed lt c.index.ensures)

@@ -17,8 +17,8 @@ bounds-own-fragment c =
 pub bounds-degrees-tail : goal.bounds-degrees-tail
 bounds-degrees-tail c = (c.requires.ends _ (c.requires.exits.1 _ _ c.in-Some-exits.is)).0
 
-pub index-mut-requires : goal.index-mut-requires
-index-mut-requires c =
+pub index_mut-requires : goal.index_mut-requires
+index_mut-requires c =
     let n = c.args.nesting.now in
     let lt : c.loop-link.link < length (vec_items n.entered) = omega (arith, c.requires.entered) in
     let e = each_some_read (Inner (length (vec_items n.fragments))) (vec_items n.entered) _ _ _ n.known lt c.index.ensures c.in-Some.is in

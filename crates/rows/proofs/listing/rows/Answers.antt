@@ -3,8 +3,8 @@ use Rattle.theory.proofs.Elements.{each_read}
 use Rattle.rows.specs.Orders.{no_record, Known}
 use Rattle.rows.proofs.listing.rows.Goals as goal
 
-pub overflow-cast-fragment : goal.overflow-cast-fragment
-overflow-cast-fragment c =
+pub overflow_cast-fragment : goal.overflow_cast-fragment
+overflow_cast-fragment c =
     let t = c.args.table.now in
     let n = length c.args.kinds.now in
     let lt : c.loop-i.i < length (vec_items t.records) = omega (arith, t.records.ok.0) in

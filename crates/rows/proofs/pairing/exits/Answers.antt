@@ -6,20 +6,20 @@ use Rattle.rows.proofs.pairing.exits.Goals as goal
 pub loop-link-init : goal.loop-link-init
 loop-link-init c =
     let m = length c.args.classes.now in (
-      omega (arith, c.in-ok-exits.ensures.len),
-      each_some_none (Below m) _ _ (c.in-ok-exits.ensures.items-if-clones-equal (λ y e. search rules)),
-      omega (arith, c.in-ok-latest.ensures.len),
-      each_some_none (Below m) _ _ (c.in-ok-latest.ensures.items-if-clones-equal (λ y e. search rules)),
+      omega (arith, c.in_ok-exits.ensures.len),
+      each_some_none (Below m) _ _ (c.in_ok-exits.ensures.items_if_clones_equal (λ y e. search rules)),
+      omega (arith, c.in_ok-latest.ensures.len),
+      each_some_none (Below m) _ _ (c.in_ok-latest.ensures.items_if_clones_equal (λ y e. search rules)),
     )
 
-pub index-mut-requires-in-loop-link : goal.index-mut-requires-in-loop-link
-index-mut-requires-in-loop-link c =
+pub index_mut-requires-in-loop-link : goal.index_mut-requires-in-loop-link
+index_mut-requires-in-loop-link c =
     let m = length c.args.classes.now in
     let class : _ < length (vec_items c.loop-link.latest) = omega (arith, c.requires.classes _ (c.requires.order _ c.loop-link-test.true), c.loop-link.invariant.2, c.loop-link.latest.ok.0) in
     omega (arith, c.loop-link.invariant.0, each_some_read (Below m) (vec_items c.loop-link.latest) _ _ _ c.loop-link.invariant.3 class c.index-before.ensures c.in-Some.is)
 
-pub loop-link-preserved-in-default : goal.loop-link-preserved-in-default
-loop-link-preserved-in-default c =
+pub loop-link-preserved-in_default : goal.loop-link-preserved-in_default
+loop-link-preserved-in_default c =
     let i = c.loop-link.invariant in
     (i.0, i.1, i.2, each_some_set (Below _) _ _ _ i.3 (c.requires.order _ c.loop-link-test.true))
 

@@ -4,23 +4,23 @@ use Rattle.plan.specs.Drafts.{draft_meaning}
 use Rattle.plan.proofs.Drafted.{no_links, bad_ends, told_full}
 use Rattle.plan.proofs.gateway.drafting.Draft.finish.Goals as goal
 
-pub returns-then-is-empty : goal.returns-then-is-empty
-returns-then-is-empty c = no_links c.args.self.state (draft_meaning c.args.self) c.args.line (rw length-map (search rules))
+pub returns-then-is_empty : goal.returns-then-is_empty
+returns-then-is_empty c = no_links c.args.self.state (draft_meaning c.args.self) c.args.line (rw length-map (search rules))
 
-pub returns-then-not-has-steps : goal.returns-then-not-has-steps
-returns-then-not-has-steps c =
+pub returns-then-not-has_steps : goal.returns-then-not-has_steps
+returns-then-not-has_steps c =
     bad_ends c.args.self.state (draft_meaning c.args.self) c.args.line c.requires.stage (search rules) refl (rw length-map (search rules))
-    (λ good. c.if-not-has-steps.ensures (good.0, good.1))
+    (λ good. c.if-not-has_steps.ensures (good.0, good.1))
 
 pub returns-then-self : goal.returns-then-self
 returns-then-self c =
     bad_ends c.args.self.state (draft_meaning c.args.self) c.args.line c.requires.stage (search rules) refl (rw length-map (search rules))
     (λ good. good.2 c.if-self.true)
 
-pub invariant-of-result : goal.invariant-of-result
-invariant-of-result c =
+pub invariant_of-result : goal.invariant_of-result
+invariant_of-result c =
     let b = c.requires.bounded in
-    let below = c.if-not-has-steps.ensures in
+    let below = c.if-not-has_steps.ensures in
     let few : length (vec_items c.args.self.links) ≤ 2048 = rw length-map at b.few_links in
     (search rules, (b.few_steps, (search rules, (few, (b.ends_below, (below.0, (below.1, (c.if-self.false, tt))))))))
 

@@ -22,7 +22,7 @@ invariant_of-result c =
     let b = c.requires.bounded in
     let below = c.if-not-has_steps.ensures in
     let few : length (vec_items c.args.self.links) ≤ 2048 = rw length-map at b.few_links in
-    (search rules, (b.few_steps, (search rules, (few, (b.ends_below, (below.0, (below.1, (c.if-self.false, tt))))))))
+    record { some_steps = search rules; few_steps = b.few_steps; some_links = search rules; few_links = few; ends_below = b.ends_below; first_below = below.0; last_below = below.1; apart = c.if-self.false }
 
 pub returns : goal.returns
 returns c = told_full c.args.self.state (draft_meaning c.args.self) c.requires.stage (search rules)

@@ -11,29 +11,29 @@ use Rattle.search.proofs.soundness.sound_order.Goals as goal
 pub returns-in-Some : goal.returns-in-Some
 returns-in-Some c = found_of head_of _ _ _ _ c.deref.ensures.value c.in-Some.ensures
 
-pub returns-in-Some-first-leaving : goal.returns-in-Some-first-leaving
-returns-in-Some-first-leaving c =
-    let f = found_of tail_of _ _ _ _ c.deref-2.ensures.value c.in-Some-first-leaving.ensures in
-    (none_of head_of _ _ _ c.deref.ensures.value c.in-default.ensures, f.0, f.1, f.2)
+pub returns-in-Some-first_leaving : goal.returns-in-Some-first_leaving
+returns-in-Some-first_leaving c =
+    let f = found_of tail_of _ _ _ _ c.deref-2.ensures.value c.in-Some-first_leaving.ensures in
+    (none_of head_of _ _ _ c.deref.ensures.value c.in_default.ensures, f.0, f.1, f.2)
 
-pub returns-in-Some-first-missed : goal.returns-in-Some-first-missed
-returns-in-Some-first-missed c =
+pub returns-in-Some-first_missed : goal.returns-in-Some-first_missed
+returns-in-Some-first_missed c =
     let g = c.args.graph.now in
-    let o = c.in-ok-order.order in
-    let w = subst (λ (es : List Ends). Searched (map pair_of es) g.steps g.first.0 o.links.items o.reached.items) c.deref-3.ensures.value c.in-ok-order.ensures in
-    let m = missed _ _ _ _ _ _ c.in-Some-first-missed.step.0 w c.deref-4.ensures.value c.in-Some-first-missed.ensures in (
-      none_of head_of _ _ _ c.deref.ensures.value c.in-default.ensures,
-      none_of tail_of _ _ _ c.deref-2.ensures.value c.in-default-first-leaving.ensures,
+    let o = c.in_ok-order.order in
+    let w = subst (λ (es : List Ends). Searched (map pair_of es) g.steps g.first.0 o.links.items o.reached.items) c.deref-3.ensures.value c.in_ok-order.ensures in
+    let m = missed _ _ _ _ _ _ c.in-Some-first_missed.step.0 w c.deref-4.ensures.value c.in-Some-first_missed.ensures in (
+      none_of head_of _ _ _ c.deref.ensures.value c.in_default.ensures,
+      none_of tail_of _ _ _ c.deref-2.ensures.value c.in_default-first_leaving.ensures,
       m.0,
       m.1,
       m.2,
     )
 
-pub order-of-search-requires-2 : goal.order-of-search-requires-2
-order-of-search-requires-2 c =
+pub order_of_search-requires-2 : goal.order_of_search-requires-2
+order_of_search-requires-2 c =
     let g = c.args.graph.now in
     let es = g.links.items in
-    let e = ap (λ (t : List Ends). map pair_of t) c.deref-6.ensures.value ∙ c.in-ok-turned.ensures ∙ ap (λ (t : List Ends). map swapped (map pair_of t)) c.deref-5.ensures.value in
+    let e = ap (λ (t : List Ends). map pair_of t) c.deref-6.ensures.value ∙ c.in_ok-turned.ensures ∙ ap (λ (t : List Ends). map swapped (map pair_of t)) c.deref-5.ensures.value in
     let long = sym (length-map c.deref-6.result.now pair_of) ∙ ap length e ∙ length-map (map pair_of es) swapped ∙ length-map es pair_of in
     record {
       below = subst (λ (G : List (ℕ × ℕ)). EndsBelow g.steps G) (sym e) (turned_below (map pair_of es) g.steps g.ends_below);
@@ -41,18 +41,18 @@ order-of-search-requires-2 c =
       within = g.last_below;
     }
 
-pub returns-in-Some-first-missed-2 : goal.returns-in-Some-first-missed-2
-returns-in-Some-first-missed-2 c =
+pub returns-in-Some-first_missed-2 : goal.returns-in-Some-first_missed-2
+returns-in-Some-first_missed-2 c =
     let g = c.args.graph.now in
-    let o = c.in-ok-order.order in
-    let b = c.in-ok-back.back in
-    let w = subst (λ (es : List Ends). Searched (map pair_of es) g.steps g.first.0 o.links.items o.reached.items) c.deref-3.ensures.value c.in-ok-order.ensures in
-    let e = ap (λ (t : List Ends). map pair_of t) c.deref-6.ensures.value ∙ c.in-ok-turned.ensures ∙ ap (λ (t : List Ends). map swapped (map pair_of t)) c.deref-5.ensures.value in
-    let y = subst (λ (G : List (ℕ × ℕ)). Searched G g.steps g.last.0 b.links.items b.reached.items) e c.in-ok-back.ensures in
-    let m = missed_back (map pair_of g.links.items) _ _ _ (missed _ _ _ _ _ _ c.in-Some-first-missed-2.step.0 y c.deref-7.ensures.value c.in-Some-first-missed-2.ensures) in (
-      none_of head_of _ _ _ c.deref.ensures.value c.in-default.ensures,
-      none_of tail_of _ _ _ c.deref-2.ensures.value c.in-default-first-leaving.ensures,
-      none_missed _ _ _ _ _ _ w c.deref-4.ensures.value c.in-default-first-missed.ensures,
+    let o = c.in_ok-order.order in
+    let b = c.in_ok-back.back in
+    let w = subst (λ (es : List Ends). Searched (map pair_of es) g.steps g.first.0 o.links.items o.reached.items) c.deref-3.ensures.value c.in_ok-order.ensures in
+    let e = ap (λ (t : List Ends). map pair_of t) c.deref-6.ensures.value ∙ c.in_ok-turned.ensures ∙ ap (λ (t : List Ends). map swapped (map pair_of t)) c.deref-5.ensures.value in
+    let y = subst (λ (G : List (ℕ × ℕ)). Searched G g.steps g.last.0 b.links.items b.reached.items) e c.in_ok-back.ensures in
+    let m = missed_back (map pair_of g.links.items) _ _ _ (missed _ _ _ _ _ _ c.in-Some-first_missed-2.step.0 y c.deref-7.ensures.value c.in-Some-first_missed-2.ensures) in (
+      none_of head_of _ _ _ c.deref.ensures.value c.in_default.ensures,
+      none_of tail_of _ _ _ c.deref-2.ensures.value c.in_default-first_leaving.ensures,
+      none_missed _ _ _ _ _ _ w c.deref-4.ensures.value c.in_default-first_missed.ensures,
       m.0,
       m.1,
       m.2,
@@ -61,20 +61,20 @@ returns-in-Some-first-missed-2 c =
 pub returns : goal.returns
 returns c =
     let g = c.args.graph.now in
-    let o = c.in-ok-order.order in
-    let b = c.in-ok-back.back in
-    let w = subst (λ (es : List Ends). Searched (map pair_of es) g.steps g.first.0 o.links.items o.reached.items) c.deref-3.ensures.value c.in-ok-order.ensures in
-    let e = ap (λ (t : List Ends). map pair_of t) c.deref-6.ensures.value ∙ c.in-ok-turned.ensures ∙ ap (λ (t : List Ends). map swapped (map pair_of t)) c.deref-5.ensures.value in
-    let y = subst (λ (G : List (ℕ × ℕ)). Searched G g.steps g.last.0 b.links.items b.reached.items) e c.in-ok-back.ensures in
+    let o = c.in_ok-order.order in
+    let b = c.in_ok-back.back in
+    let w = subst (λ (es : List Ends). Searched (map pair_of es) g.steps g.first.0 o.links.items o.reached.items) c.deref-3.ensures.value c.in_ok-order.ensures in
+    let e = ap (λ (t : List Ends). map pair_of t) c.deref-6.ensures.value ∙ c.in_ok-turned.ensures ∙ ap (λ (t : List Ends). map swapped (map pair_of t)) c.deref-5.ensures.value in
+    let y = subst (λ (G : List (ℕ × ℕ)). Searched G g.steps g.last.0 b.links.items b.reached.items) e c.in_ok-back.ensures in
     record {
       sound = record {
         begins = g.first_below;
         ends = g.last_below;
         within = g.ends_below;
-        none_in = none_of head_of _ _ _ c.deref.ensures.value c.in-default.ensures;
-        none_out = none_of tail_of _ _ _ c.deref-2.ensures.value c.in-default-first-leaving.ensures;
-        between = both _ _ _ _ (none_missed _ _ _ _ _ _ w c.deref-4.ensures.value c.in-default-first-missed.ensures) (none_missed _ _ _ _ _ _ y c.deref-7.ensures.value c.in-default-first-missed-2.ensures);
+        none_in = none_of head_of _ _ _ c.deref.ensures.value c.in_default.ensures;
+        none_out = none_of tail_of _ _ _ c.deref-2.ensures.value c.in_default-first_leaving.ensures;
+        between = both _ _ _ _ (none_missed _ _ _ _ _ _ w c.deref-4.ensures.value c.in_default-first_missed.ensures) (none_missed _ _ _ _ _ _ y c.deref-7.ensures.value c.in_default-first_missed-2.ensures);
       };
-      in_order = w.in-order;
-      whole = all_listed _ _ _ _ _ _ g.ends_below w c.deref-4.ensures.value c.in-default-first-missed.ensures;
+      in_order = w.in_order;
+      whole = all_listed _ _ _ _ _ _ g.ends_below w c.deref-4.ensures.value c.in_default-first_missed.ensures;
     }

@@ -7,4 +7,4 @@ use Rattle.search.proofs.spanning.closed_links.Goals as goal
 
 pub returns : goal.returns
 returns c =
-    closed_more _ _ (graph_of c.args.graph.now) _ (ap (λ (t : List Ends). map pair_of t) (c.in-ok-links.ensures.items ∙ c.deref.ensures.value)) refl c.in-ok-push.ensures.items
+    closed_more _ _ (graph_of c.args.graph.now) _ (ap (λ (t : List Ends). map pair_of t) (c.in_ok-links.ensures.items ∙ c.deref.ensures.value)) refl c.in_ok-push.ensures.items

@@ -12,7 +12,7 @@ pub explore-requires : goal.explore-requires
 explore-requires c =
     let g = c.args.graph.now in
     let P = graph_of g in
-    let e = ap (λ (t : List Ends). map pair_of t) c.deref.ensures.value ∙ c.in-ok-links.ensures in
+    let e = ap (λ (t : List Ends). map pair_of t) c.deref.ensures.value ∙ c.in_ok-links.ensures in
     let long = sym (length-map c.deref.result.now pair_of) ∙ ap length e in
     record {
       below = subst (λ (G : List (ℕ × ℕ)). EndsBelow g.steps G) (sym e) (closed_below P g.steps g.first_below g.last_below g.ends_below);
@@ -25,7 +25,7 @@ pub returns : goal.returns
 returns c =
     let g = c.args.graph.now in
     let P = graph_of g in
-    let e = ap (λ (t : List Ends). map pair_of t) c.deref.ensures.value ∙ c.in-ok-links.ensures in
+    let e = ap (λ (t : List Ends). map pair_of t) c.deref.ensures.value ∙ c.in_ok-links.ensures in
     record {
       spans = made_map c.explore.result _ _ (λ t s. subst (λ (G : List (ℕ × ℕ)). Spans G g.steps g.first.0 t.number.items t.visits.items) e s) c.explore.ensures;
       whole = made_map c.explore.result _ _ (λ t s sound. (subst (λ (G : List (ℕ × ℕ)). Spans G g.steps g.first.0 t.number.items t.visits.items) e s).whole (connected P sound)) c.explore.ensures;

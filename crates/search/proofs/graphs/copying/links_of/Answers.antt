@@ -3,7 +3,7 @@ use Rattle.search.proofs.graphs.copying.links_of.Goals as goal
 
 pub loop-ends-preserved : goal.loop-ends-preserved
 loop-ends-preserved g c =
-    copied_more (g.P.Plan.meaning c.args.plan.now) c.loop-ends.l c.in-Some.ends _ _ c.loop-ends.invariant c.in-Some.ensures c.in-ok-push.ensures.items
+    copied_more (g.P.Plan.meaning c.args.plan.now) c.loop-ends.l c.in-Some.ends _ _ c.loop-ends.invariant c.in-Some.ensures c.in_ok-push.ensures.items
 
 pub returns : goal.returns
-returns g c = copied_all (g.P.Plan.meaning c.args.plan.now) c.loop-ends.l _ c.loop-ends.invariant c.in-default.ensures
+returns g c = copied_all (g.P.Plan.meaning c.args.plan.now) c.loop-ends.l _ c.loop-ends.invariant c.in_default.ensures

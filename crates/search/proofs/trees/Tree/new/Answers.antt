@@ -3,15 +3,16 @@ use Rattle.search.specs.Numbered.{nones}
 use Rattle.search.proofs.Numbers.{all_new, all_none, nones_replicate}
 use Rattle.search.proofs.trees.Tree.new.Goals as goal
 
-pub invariant-of-result : goal.invariant-of-result
-invariant-of-result c =
+pub invariant_of-result : goal.invariant_of-result
+invariant_of-result c =
     let v = c.in-Ok.number in
-    let e : v.items ≡ replicate {A = Option ℕ} c.args.steps None = c.in-Ok.ensures.exact (λ y e. search rules) in
+    let e : v.items ≡ replicate {A = Option ℕ} c.args.steps None = c.in-Ok.ensures.items_if_clones_equal (λ y e. search rules) in
     let z = ap nones e ∙ nones_replicate c.args.steps in
-    let l = c.in-Ok.ensures.made.1 in
+    let l = c.in-Ok.ensures.len in
     let y = ap length c.new.ensures.items in
-    (omega (arith, v.ok.0), (omega (arith, v.ok.0), all_new _ _ c.new.ensures.items (all_none _ c.args.steps e)))
+    let a = all_new _ _ c.new.ensures.items (all_none _ c.args.steps e) in
+    record { few = omega (arith, v.ok.0); filled = omega (arith, v.ok.0); inside = a.0; back = a.1.0; known = a.1.1.0; forth = a.1.1.1.0; above = a.1.1.1.1.0 }
 
 pub returns-in-Ok : goal.returns-in-Ok
 returns-in-Ok c =
-    (c.in-Ok.ensures.made.1, c.new.ensures.items, all_none _ c.args.steps (c.in-Ok.ensures.exact (λ y e. search rules)))
+    (c.in-Ok.ensures.len, c.new.ensures.items, all_none _ c.args.steps (c.in-Ok.ensures.items_if_clones_equal (λ y e. search rules)))

@@ -8,9 +8,9 @@ use Rattle.classes.proofs.brackets.back_links.Goals as goal
 pub loop-l-init : goal.loop-l-init
 loop-l-init c =
     let t = c.args.tree.now in (
-      omega (arith, c.in-ok-levels.ensures, c.len-count.ensures, t.visits.ok.0),
-      omega (arith, c.in-ok-brackets.ensures.0, c.len-count.ensures, t.visits.ok.0),
-      holding_new (Item c.args.items) _ _ c.in-ok-brackets.ensures.1,
+      omega (arith, c.in_ok-levels.ensures, c.len-count.ensures, t.visits.ok.0),
+      omega (arith, c.in_ok-brackets.ensures.0, c.len-count.ensures, t.visits.ok.0),
+      holding_new (Item c.args.items) _ _ c.in_ok-brackets.ensures.1,
     )
 
 pub index-requires-in-loop-l : goal.index-requires-in-loop-l

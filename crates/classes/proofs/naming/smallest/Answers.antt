@@ -6,8 +6,8 @@ use Rattle.classes.proofs.naming.smallest.Goals as goal
 pub loop-l-init : goal.loop-l-init
 loop-l-init c =
     let m = c.args.links in (
-      omega (arith, c.in-ok-names.ensures.len),
-      each_some_none (Below m) _ _ (c.in-ok-names.ensures.items-if-clones-equal (λ y e. search rules)),
+      omega (arith, c.in_ok-names.ensures.len),
+      each_some_none (Below m) _ _ (c.in_ok-names.ensures.items_if_clones_equal (λ y e. search rules)),
       c.new-classes.ensures.len,
       each_nil (Below m) (record { 0 = 0 }) _ c.new-classes.ensures.items,
     )
@@ -18,9 +18,9 @@ loop-l-preserved c =
     let i = c.loop-l.invariant in
     let in-firsts : c.loop-l.l < length c.args.firsts.now = omega (arith, c.requires.enough, c.loop-l-test.true) in
     let lt : _ < length (vec_items c.loop-l.names) = omega (arith, c.requires.below c.loop-l.l in-firsts, i.0, c.loop-l.names.ok.0) in
-    let p = each_some_or (Below m) (vec_items c.loop-l.names) _ _ _ _ i.1 lt c.index.ensures c.loop-l-test.true c.unwrap-or-class.ensures in (
+    let p = each_some_or (Below m) (vec_items c.loop-l.names) _ _ _ _ i.1 lt c.index.ensures c.loop-l-test.true c.unwrap_or-class.ensures in (
       i.0,
       each_some_set (Below m) _ _ _ i.1 p,
-      omega (arith, i.2, c.in-ok-push.ensures.len),
+      omega (arith, i.2, c.in_ok-push.ensures.len),
       each_pushed (Below m) (record { 0 = 0 }) _ _ _ _ c.push.ensures.items i.3 p,
     )

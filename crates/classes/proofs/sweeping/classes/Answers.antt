@@ -15,65 +15,65 @@ use Rattle.classes.proofs.sweeping.classes.Goals as goal
 long : (g : Graph) (xs : List Ends) → map pair_of xs ≡ closed (graph_of g) → length xs ≡ length (vec_items g.links) + 1
 long g xs e = sym (length-map xs pair_of) ∙ ap length e ∙ more (graph_of g) ∙ ap (λ (n : ℕ). n + 1) (length-map (vec_items g.links) pair_of)
 
-pub overflow-cast-links : goal.overflow-cast-links
-overflow-cast-links c =
+pub overflow_cast-links : goal.overflow_cast-links
+overflow_cast-links c =
     let g = c.args.graph.now in
-    omega (arith, long g (vec_items c.in-ok-closed.closed) c.in-ok-closed.ensures, g.few_links, c.len-links.ensures, c.in-ok-closed.closed.ok.0)
+    omega (arith, long g (vec_items c.in_ok-closed.closed) c.in_ok-closed.ensures, g.few_links, c.len-links.ensures, c.in_ok-closed.closed.ok.0)
 
-pub overflow-add-items : goal.overflow-add-items
-overflow-add-items c =
+pub overflow_add-items : goal.overflow_add-items
+overflow_add-items c =
     let g = c.args.graph.now in
-    let t = c.in-ok-tree.tree in
+    let t = c.in_ok-tree.tree in
     omega (
       arith,
-      long g (vec_items c.in-ok-closed.closed) c.in-ok-closed.ensures,
+      long g (vec_items c.in_ok-closed.closed) c.in_ok-closed.ensures,
       g.few_links,
       c.len-links.ensures,
-      c.in-ok-closed.closed.ok.0,
+      c.in_ok-closed.closed.ok.0,
       c.len.ensures,
       t.visits.ok.0,
       t.filled,
-      c.in-ok-tree.ensures.spans.long,
+      c.in_ok-tree.ensures.spans.long,
       g.few_steps,
     )
 
-pub back-links-requires : goal.back-links-requires
-back-links-requires c =
+pub back_links-requires : goal.back_links-requires
+back_links-requires c =
     let g = c.args.graph.now in
-    let t = c.in-ok-tree.tree in
-    let s = c.in-ok-tree.ensures.spans in
-    let e = ap (map pair_of) c.as-slice.ensures.value ∙ c.in-ok-closed.ensures in
+    let t = c.in_ok-tree.tree in
+    let s = c.in_ok-tree.ensures.spans in
+    let e = ap (map pair_of) c.as_slice.ensures.value ∙ c.in_ok-closed.ensures in
     record {
-      ends = subst (λ (n : ℕ). EndsBelow n (map pair_of c.as-slice.result.now)) (sym s.long)
+      ends = subst (λ (n : ℕ). EndsBelow n (map pair_of c.as_slice.result.now)) (sym s.long)
           (subst (EndsBelow g.steps) (sym e) (closed_below (graph_of g) g.steps g.first_below g.last_below g.ends_below));
-      tree = λ k z lt. omega (arith, (s.joined k z lt).0, length-map c.as-slice.result.now pair_of, ap length e);
-      items = omega (arith, c.len-links.ensures, c.as-slice.ensures.len);
+      tree = λ k z lt. omega (arith, (s.joined k z lt).0, length-map c.as_slice.result.now pair_of, ap length e);
+      items = omega (arith, c.len-links.ensures, c.as_slice.ensures.len);
       few = omega (arith, c.len.ensures, t.visits.ok.0);
     }
 
-pub first-links-requires : goal.first-links-requires
-first-links-requires c =
-    let t = c.in-ok-tree.tree in
-    let s = c.in-ok-tree.ensures.spans in
-    let b = c.in-ok-started.ensures in
-    let xs = vec_items c.in-ok-closed.closed in
+pub first_links-requires : goal.first_links-requires
+first_links-requires c =
+    let t = c.in_ok-tree.tree in
+    let s = c.in_ok-tree.ensures.spans in
+    let b = c.in_ok-started.ensures in
+    let xs = vec_items c.in_ok-closed.closed in
     record {
       swept = record { levels = b.0; lists = b.1; held = b.2 };
-      some = omega (arith, long c.args.graph.now xs c.in-ok-closed.ensures, c.len-links.ensures, c.in-ok-closed.closed.ok.0);
+      some = omega (arith, long c.args.graph.now xs c.in_ok-closed.ensures, c.len-links.ensures, c.in_ok-closed.closed.ok.0);
       items = omega (arith, c.len.ensures, t.visits.ok.0);
-      tree = λ k z lt. omega (arith, (s.joined k z lt).0, ap length c.in-ok-closed.ensures, length-map xs pair_of, c.len-links.ensures, c.in-ok-closed.closed.ok.0);
+      tree = λ k z lt. omega (arith, (s.joined k z lt).0, ap length c.in_ok-closed.ensures, length-map xs pair_of, c.len-links.ensures, c.in_ok-closed.closed.ok.0);
     }
 
 pub smallest-requires : goal.smallest-requires
 smallest-requires c =
     let g = c.args.graph.now in
-    let f = c.in-ok-firsts.ensures in
-    let e = c.as-slice-2.ensures.value in
-    let n : length c.as-slice-2.result.now ≡ c.len-links.result = ap length e ∙ f.0 in
+    let f = c.in_ok-firsts.ensures in
+    let e = c.as_slice-2.ensures.value in
+    let n : length c.as_slice-2.result.now ≡ c.len-links.result = ap length e ∙ f.0 in
     record {
       few = omega (arith, c.len-2.ensures, g.links.ok.0, g.few_links);
-      enough = omega (arith, n, long g (vec_items c.in-ok-closed.closed) c.in-ok-closed.ensures, c.len-2.ensures, g.links.ok.0, c.len-links.ensures, c.in-ok-closed.closed.ok.0);
-      below = subst (λ (m : ℕ). Each (Below m) (record { 0 = 0 }) c.as-slice-2.result.now) (sym n) (subst (λ (xs : List LinkNo). Each (Below c.len-links.result) (record { 0 = 0 }) xs) (sym e) f.1);
+      enough = omega (arith, n, long g (vec_items c.in_ok-closed.closed) c.in_ok-closed.ensures, c.len-2.ensures, g.links.ok.0, c.len-links.ensures, c.in_ok-closed.closed.ok.0);
+      below = subst (λ (m : ℕ). Each (Below m) (record { 0 = 0 }) c.as_slice-2.result.now) (sym n) (subst (λ (xs : List LinkNo). Each (Below c.len-links.result) (record { 0 = 0 }) xs) (sym e) f.1);
     }
 
 pub returns : goal.returns

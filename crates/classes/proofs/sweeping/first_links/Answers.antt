@@ -18,19 +18,19 @@ turn-requires c =
       items = omega (arith, c.requires.items, i.0.levels);
     }
 
-pub first-named-requires : goal.first-named-requires
-first-named-requires c =
+pub first_named-requires : goal.first_named-requires
+first_named-requires c =
     let t = c.args.tree.now in
     let i = c.loop-v.invariant in
     let z : 0 < c.loop-v.v - 1 = omega arith in
     let lt : c.loop-v.v - 1 < length (vec_items t.visits) = omega (arith, t.visits.ok.0) in
     record {
-      top = cases_map (λ k. k < c.args.items) _ c.in-ok-top.top (λ k h. omega (arith, h, i.4)) c.in-ok-top.ensures.1;
+      top = cases_map (λ k. k < c.args.items) _ c.in_ok-top.top (λ k h. omega (arith, h, i.4)) c.in_ok-top.ensures.1;
       link = omega (arith, i.3, each_read_at (λ (k : ℕ) (v : Visit). 0 < k → v.link.0 < c.args.links) none (vec_items t.visits) _ _ (λ k l p. c.requires.tree k p l) lt c.index.ensures z);
     }
 
-pub index-mut-requires : goal.index-mut-requires
-index-mut-requires c =
+pub index_mut-requires : goal.index_mut-requires
+index_mut-requires c =
     let t = c.args.tree.now in
     let i = c.loop-v.invariant in
     let z : 0 < c.loop-v.v - 1 = omega arith in

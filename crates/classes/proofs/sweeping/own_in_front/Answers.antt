@@ -8,6 +8,6 @@ returns c =
     let s = c.requires.swept in
     record {
       levels = s.levels;
-      lists = c.join-at.ensures.len ∙ s.lists;
-      held = holding_join (Item c.args.items) _ _ _ _ _ _ c.join-at.ensures.rows (λ x h. h) s.held;
+      lists = c.join_at.ensures.len ∙ s.lists;
+      held = holding_join (Item c.args.items) _ _ _ _ _ _ c.join_at.ensures.rows (λ x h. h) s.held;
     }

@@ -5,6 +5,6 @@ use Rattle.classes.proofs.sweeping.own_names.Goals as goal
 
 pub loop-l-preserved : goal.loop-l-preserved
 loop-l-preserved c = (
-  omega (arith, c.loop-l.invariant.0, c.in-ok-push.ensures.len),
+  omega (arith, c.loop-l.invariant.0, c.in_ok-push.ensures.len),
   each_pushed (Below c.args.links) (record { 0 = 0 }) _ _ _ _ c.push.ensures.items c.loop-l.invariant.1 c.loop-l-test.true,
 )

@@ -3,6 +3,6 @@ use Rattle.theory.proofs.Elements.{each_replicate}
 use Rattle.classes.specs.Named.{Named, nothing}
 use Rattle.classes.proofs.naming.Names.new.Goals as goal
 
-pub invariant-of-result : goal.invariant-of-result
-invariant-of-result c =
-    (each_replicate (Named c.args.links) nothing c.args.brackets nothing (vec_items c.in-ok-latest.latest) (c.in-ok-latest.ensures.items-if-clones-equal (λ y e. search rules)) c.requires, tt)
+pub invariant_of-result : goal.invariant_of-result
+invariant_of-result c =
+    record { known = each_replicate (Named c.args.links) nothing c.args.brackets nothing (vec_items c.in_ok-latest.latest) (c.in_ok-latest.ensures.items_if_clones_equal (λ y e. search rules)) c.requires }

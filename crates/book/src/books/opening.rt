@@ -85,7 +85,7 @@ impl Book {
     pub fn open<P: Plan>(&mut self, plan: &P) -> Result<(), ShapeFault>
         ensures { MatchResult result (λ _. Opened (P.Plan.meaning plan.now) self.new) (λ e. Misshaped (P.Plan.meaning plan.now).graph e × (self.new ≡ self.old)) }
     {
-        let heap = self.classes.allocator();
+        let heap = *self.classes.allocator();
         *self = Book::of(plan, heap)?;
         Ok(())
     }

@@ -7,5 +7,5 @@ pub returns : goal.returns
 returns c =
     let o = c.in-Ok.ensures in
     let n : c.in-Ok.len - 0 ≡ length (row_bytes c.args.row) = omega (arith, o.2) in
-    c.in-ok-extend-from-slice.ensures.items
-    ∙ ap (λ (t : List ℕ). vec_items c.args.lines.now ++ t) (front (row_bytes c.args.row) c.row-line.new.buf _ (c.in-Ok.len - 0) n o.3)
+    c.in_ok-extend_from_slice.ensures.items
+    ∙ ap (λ (t : List ℕ). vec_items c.args.lines.now ++ t) (front (row_bytes c.args.row) c.row_line.new.buf _ (c.in-Ok.len - 0) n o.3)

@@ -8,12 +8,12 @@ pub returns : goal.returns
 returns c =
     let t = c.read.new.self in
     let b = c.open.new.self in
-    let r = c.in-ok-read.ensures.reads in
-    let o = c.in-ok-open.ensures in
+    let r = c.in_ok-read.ensures.reads in
+    let o = c.in_ok-open.ensures in
     record {
       meaning = meaning_of t;
       writes = record { short = r.0; limits = r.1; spells = r.2 };
       book = b;
       opened = o;
-      told = c.in-ok-lines.ensures ∙ ap (λ (k : ℕ). lines_of (drop k (rows_of b))) o.fresh.start;
+      told = c.in_ok-lines.ensures ∙ ap (λ (k : ℕ). lines_of (drop k (rows_of b))) o.fresh.start;
     }

@@ -21,7 +21,7 @@ fn new_book(rt: HostRuntime) -> Result<(), Fail> {
     assert_eq!(rt; book.class(LinkNo(0))?.0, 0);
     assert_eq!(rt; book.find(StepNo(1))?.0, 0);
     let lines = lines_left(&mut book, heap)?;
-    assert!(rt; lines.as_slice() == b"0 - whole - - 2\n");
+    assert!(rt; lines.as_slice() == b"0 - whole - - 2\n".as_slice());
     Ok(())
 }
 
@@ -30,7 +30,7 @@ fn check_third(rt: &impl Abort, book: &mut Book, heap: Global) -> Result<(), Fai
     assert_eq!(rt; book.class(LinkNo(4))?.0, 3);
     assert_eq!(rt; book.find(StepNo(3))?.0, 3);
     let lines = lines_left(book, heap)?;
-    assert!(rt; lines.as_slice() == b"2 1 single 1 2 1\n3 1 single 3 4 1\n");
+    assert!(rt; lines.as_slice() == b"2 1 single 1 2 1\n3 1 single 3 4 1\n".as_slice());
     book.restart();
     assert!(rt; book.next().is_some() && book.next().is_some());
     Ok(())
@@ -47,7 +47,7 @@ fn refused_opening(rt: HostRuntime) -> Result<(), Fail> {
         return Err(Fail::new("opened"));
     };
     let line = refusal_bytes(fault.refusal().ok_or("no memory")?, heap)?;
-    assert!(rt; line.as_slice() == b"refused 45 shape 1\n");
+    assert!(rt; line.as_slice() == b"refused 45 shape 1\n".as_slice());
     check_third(&rt, &mut book, heap)?;
     // The book does not ask its plan again.
     book.open(&table_of(&text_of(FORK, heap)?.bytes, heap)?)?;
@@ -109,9 +109,9 @@ fn buffers(rt: HostRuntime) -> Result<(), Fail> {
     assert!(rt; refusal_line(refusal, &mut short).is_err() && untouched(&short));
     let mut long = [7; 64];
     assert_eq!(rt; row_line(row, &mut long)?, 16);
-    assert!(rt; &long[0..16] == b"0 - whole - - 6\n" && untouched(&long[16..64]));
+    assert!(rt; &long[0..16] == b"0 - whole - - 6\n".as_slice() && untouched(&long[16..64]));
     let mut longer = [7; 80];
     assert_eq!(rt; refusal_line(refusal, &mut longer)?, 18);
-    assert!(rt; &longer[0..18] == b"refused 64 book 6\n" && untouched(&longer[18..80]));
+    assert!(rt; &longer[0..18] == b"refused 64 book 6\n".as_slice() && untouched(&longer[18..80]));
     Ok(())
 }

@@ -59,10 +59,14 @@ fn first_of(links: &[Named], name: u8) -> u16 {
     number
 }
 
-fn check_classes(rt: &impl Abort, book: &Book, links: &[Named]) -> Result<(), Fail> {
+fn check_classes(rt: &impl Abort, book: &Book, links: &[Named], order: usize) -> Result<(), Fail> {
     let mut number = 0u16;
     for link in links {
-        assert_eq!(rt; book.class(LinkNo(number))?.0, first_of(links, link.2));
+        assert_eq!(rt;
+            book.class(LinkNo(number))?.0,
+            first_of(links, link.2),
+            "in order {order}"
+        );
         number = number.saturating_add(1);
     }
     Ok(())
@@ -76,9 +80,9 @@ fn classes_in_every_order(rt: HostRuntime) -> Result<(), Fail> {
         let links = ordered(number, heap)?;
         let table = table(&links, heap)?;
         book.open(&table)?;
-        check_classes(&rt, &book, &links).note(number)?;
+        check_classes(&rt, &book, &links, number)?;
         book.open(&Turned::new(table))?;
-        check_classes(&rt, &book, &links).note(number)?;
+        check_classes(&rt, &book, &links, number)?;
     }
     Ok(())
 }

@@ -57,7 +57,7 @@ fn largest_plan(rt: HostRuntime) -> Result<(), Fail> {
     assert!(rt; book.next().is_none());
     text.link(0, 1)?;
     let line = answer(&text.bytes, heap)?;
-    assert!(rt; line.as_slice() == b"refused 26 plan 3074\n");
+    assert!(rt; line.as_slice() == b"refused 26 plan 3074\n".as_slice());
     Ok(())
 }
 
@@ -69,7 +69,7 @@ fn one_step_more(rt: HostRuntime) -> Result<(), Fail> {
         text.step(0)?;
     }
     let line = answer(&text.bytes, heap)?;
-    assert!(rt; line.as_slice() == b"refused 25 plan 1026\n");
+    assert!(rt; line.as_slice() == b"refused 25 plan 1026\n".as_slice());
     Ok(())
 }
 

@@ -1,5 +1,5 @@
 -- A table of one row.
-use Rattle.std.proofs.Common.{◌≡◌, ℕ, zero, suc, ◌+◌, ◌<◌, ◌≤◌, List, [], ◌∷◌, length, get_or, sym, subst, arith}
+use Rattle.std.proofs.Common.{◌≡◌, ℕ, zero, suc, ◌<◌, ◌≤◌, List, [], ◌∷◌, get_or, sym, subst, arith}
 use Rattle.rows.specs.Runs.{NestedRuns}
 
 at : (i : ℕ) → get_or (1 ∷ []) i 0 ≤ 1

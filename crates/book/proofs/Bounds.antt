@@ -1,5 +1,5 @@
 -- What the rows ask of the search and of the classes.
-use Rattle.std.proofs.Common.{◌≡◌, ℕ, ◌<◌, ◌≤◌, List, map, length, subst, arith}
+use Rattle.std.proofs.Common.{◌≡◌, ℕ, ◌≤◌, List, map, length, subst}
 use Rattle.model.specs.declared.numbers.Ends.{Ends}
 use Rattle.model.specs.declared.numbers.LinkNo.{LinkNo}
 use Rattle.model.specs.Meaning.{EndsBelow, pair_of}

@@ -1,5 +1,5 @@
 -- What the calls of a book answer and leave.
-use Rattle.std.specs.Prelude.{◌≡◌, ℕ, ◌+◌, ◌<◌, ◌≤◌, cond, List, length, get_or, None, Ok, Err, vec_items, Option, Result, MatchOption, MatchResult, nat_lt, slice_index, slice_index_or}
+use Rattle.std.specs.Prelude.{◌≡◌, ℕ, ◌+◌, ◌<◌, ◌≤◌, cond, List, length, get_or, Ok, Err, vec_items, Option, Result, MatchOption, MatchResult, nat_lt, slice_index, slice_index_or}
 use Rattle.model.specs.declared.numbers.LinkNo.{LinkNo}
 use Rattle.model.specs.declared.numbers.RowNo.{RowNo}
 use Rattle.model.specs.declared.numbers.StepNo.{StepNo}

@@ -1,5 +1,5 @@
 -- What an opening leaves in a book.
-use Rattle.std.specs.Prelude.{◌≡◌, ℕ, List, [], ◌∷◌, length, replicate, None, vec_items, Option}
+use Rattle.std.specs.Prelude.{◌≡◌, [], ◌∷◌, length, replicate, None, vec_items}
 use Rattle.model.specs.declared.kinds.Kind.TheVariants.{Whole}
 use Rattle.model.specs.declared.rowing.Row.{Row}
 use Rattle.model.specs.Meaning.{Meaning}

@@ -1,5 +1,5 @@
 -- Links as they stand in arrays, and as pairs of numbers.
-use Rattle.std.proofs.Common.{◌≡◌, ℕ, zero, suc, ◌<◌, List, [], ◌∷◌, map, length, get_or, refl, ap, subst}
+use Rattle.std.proofs.Common.{◌≡◌, ℕ, zero, suc, ◌<◌, List, [], ◌∷◌, map, length, get_or, refl, subst}
 use Rattle.std.proofs.lemmas.List.{length-map}
 use Rattle.model.specs.declared.numbers.Ends.{Ends}
 use Rattle.model.specs.Meaning.{EndsBelow, pair_of, ends_from}

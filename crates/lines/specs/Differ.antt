@@ -1,5 +1,5 @@
 -- The line of a row tells the row.
-use Rattle.std.specs.Prelude.{◌≡◌, ℕ, ◌^◌, ◌<◌, IfSome}
+use Rattle.std.specs.Prelude.{◌≡◌, ◌^◌, ◌<◌, IfSome}
 use Rattle.model.specs.declared.rowing.Row.{Row}
 use Rattle.lines.specs.Lines.{row_bytes}
 

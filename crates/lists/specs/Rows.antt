@@ -3,7 +3,7 @@
 --     put rows j xs      rows, with xs at j
 --     top, rest          the first item, if there is one, and the items after it
 --     total ls           how many items all lists have
-use Rattle.std.specs.Prelude.{◌≡◌, ℕ, ◌<◌, cond, List, [], ◌∷◌, length, Some, None, sum_by, Option, ◌==◌, ◌≢◌, slice_index_or}
+use Rattle.std.specs.Prelude.{ℕ, ◌<◌, cond, List, [], ◌∷◌, length, Some, None, sum_by, Option, ◌==◌, ◌≢◌, slice_index_or}
 use Rattle.lists.specs.declared.cells.Cell.{Cell}
 use Rattle.lists.specs.declared.cells.Chain.{Chain}
 use Rattle.lists.specs.Holds.{Holds, Apart, nil}

@@ -1,6 +1,6 @@
 -- The calls of a book with their answers, and the law that every list of them follows.
 -- A history has the newest call first. The number of a call is how many calls came before it, and a slip is named by the number of the call that made it.
-use Rattle.std.specs.Prelude.{◌≡◌, ℕ, ◌<◌, ◌≤◌, Bool, true, false, cond, ◌||◌, ◌≢◌, ◌⊎◌, List, [], ◌∷◌, length, Some, None, Option, ◌==◌}
+use Rattle.std.specs.Prelude.{◌≡◌, ℕ, ◌<◌, ◌≤◌, Bool, false, cond, ◌||◌, ◌≢◌, ◌⊎◌, List, [], ◌∷◌, length, Some, None, Option, ◌==◌}
 use Rattle.model.specs.Meaning.{Graph}
 use Rattle.model.specs.Walks.{Canonical}
 use Rattle.model.specs.Parts.{Part, whole, fragment, Holds, Apart, Clash}

@@ -1,10 +1,10 @@
 -- How long lists can get: no item stands twice, and there are so many items.
-use Rattle.std.proofs.Common.{◌≡◌, ℕ, zero, suc, ◌+◌, ◌-◌, ◌<◌, ◌≤◌, ◌⊎◌, List, [], ◌∷◌, length, sym, refl, ap, ◌∙◌, subst, inl, inr, arith}
+use Rattle.std.proofs.Common.{◌≡◌, ℕ, zero, suc, ◌+◌, ◌-◌, ◌<◌, ◌≤◌, List, length, refl, ap, ◌∙◌, inl, inr, arith}
 use Rattle.naming.specs.Words.{Elem, Once, flat}
 use Rattle.naming.specs.Names.{Shape, ByMethod}
 use Rattle.naming.specs.Built.{shape_of, kids_of}
 use Rattle.naming.specs.Searched.{Searched, Upward, base_of}
-use Rattle.naming.specs.Turns.{numbers, sofar, list_of, Bounded, ListsBounded}
+use Rattle.naming.specs.Turns.{numbers, sofar, Bounded, ListsBounded}
 use Rattle.naming.proofs.Lists.{elem_flat, once_flat, once_length}
 use Rattle.naming.proofs.Joined.{list_over, list_once, apart}
 use Rattle.naming.proofs.Built.{kids_in, in_kids, kids_once}

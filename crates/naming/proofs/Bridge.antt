@@ -1,11 +1,10 @@
-use Rattle.std.proofs.Common.{◌≡◌, ℕ, zero, suc, ◌<◌, ◌≤◌, Bool, true, false, ◌||◌, eqb, ltb, ◌≢◌, ◌⊎◌, ◌↔◌, List, [], ◌∷◌, get_or, sym, refl, ap, ◌∙◌, subst, ap₂, inl, inr, arith}
+use Rattle.std.proofs.Common.{◌≡◌, ℕ, zero, suc, ◌<◌, ◌≤◌, Bool, true, false, ◌||◌, eqb, ◌⊎◌, ◌↔◌, [], ◌∷◌, sym, refl, ap, ◌∙◌, ap₂, inl, inr, arith}
 use mathlib.Core.Bool.{xor}
 use Rattle.std.proofs.lemmas.Bool.{cases_eq, cases_lt, cases_Bool, both_ways}
 use Rattle.naming.specs.Words.{Elem, Once}
 use Rattle.naming.specs.Names.{Shape, Treelike}
-use Rattle.naming.specs.Built.{sub_at, kids_from, hi_at, list_at, shape_of}
-use Rattle.naming.specs.Searched.{Searched, Upward, base_of}
-use Rattle.naming.specs.Bridge.{Bridged, BridgeStands, example, ExampleStands}
+use Rattle.naming.specs.Built.{sub_at, kids_from, hi_at, list_at}
+use Rattle.naming.specs.Bridge.{BridgeStands, example, ExampleStands}
 use Rattle.naming.proofs.Trees.{sub_le, sub_trans, sub_chain}
 
 xor_comm : (a b : Bool) → xor a b ≡ xor b a

@@ -1,9 +1,9 @@
 -- The computed shape obeys the laws.
-use Rattle.std.proofs.Common.{◌≡◌, ℕ, zero, suc, ◌+◌, ◌-◌, ◌<◌, ◌≤◌, min, Bool, true, false, cond, not, ◌&&◌, ◌||◌, eqb, ltb, ◌≢◌, ◌⊎◌, ◌↔◌, List, [], ◌∷◌, ◌++◌, filter, sym, refl, ap, ◌∙◌, subst, ap₂, inl, inr, arith}
-use Rattle.std.proofs.lemmas.Bool.{cases_eq, cases_lt, cases_Bool, eqb-true, eq-eqb, ne_eqb, lt-ltb, cond-true, cond-false}
-use Rattle.naming.specs.Words.{Elem, Once, flat, low, second}
-use Rattle.naming.specs.Names.{Shape, Treelike, ByMethod, hi2}
-use Rattle.naming.specs.Built.{Base, sub_at, kids_from, kids_all, kids_of, hi_at, hi_of, list_at, shape_of, Ready, Built}
+use Rattle.std.proofs.Common.{◌≡◌, ℕ, zero, suc, ◌+◌, ◌-◌, ◌<◌, ◌≤◌, min, Bool, true, false, not, ◌&&◌, ◌||◌, eqb, ltb, ◌⊎◌, List, [], ◌∷◌, ◌++◌, filter, sym, refl, ap, ◌∙◌, subst, ap₂, inl, inr, arith}
+use Rattle.std.proofs.lemmas.Bool.{cases_eq, cases_Bool, eqb-true, eq-eqb, ne_eqb, lt-ltb, cond-true, cond-false}
+use Rattle.naming.specs.Words.{Elem, Once, flat, low}
+use Rattle.naming.specs.Names.{Treelike}
+use Rattle.naming.specs.Built.{Base, sub_at, kids_from, kids_all, kids_of, hi_at, list_at, shape_of, Ready, Built}
 
 or_false : (b : Bool) → (b || false) ≡ b
 or_false true = refl

@@ -1,11 +1,11 @@
 -- Rows that keep what has ended.
-use Rattle.std.proofs.Common.{◌≡◌, ℕ, ◌+◌, ◌<◌, ◌≤◌, Bool, true, false, not, eqb, ltb, ◌≢◌, ◌⊎◌, ◌↔◌, List, [], ◌∷◌, ◌++◌, length, get_or, filter, sym, refl, ap, ◌∙◌, subst, ap₂, inl, inr, arith, length-append}
+use Rattle.std.proofs.Common.{◌≡◌, ℕ, ◌+◌, ◌<◌, ◌≤◌, Bool, true, not, eqb, ltb, ◌↔◌, List, [], ◌∷◌, ◌++◌, length, get_or, filter, sym, refl, ap, ◌∙◌, subst, ap₂, inl, inr, arith, length-append}
 use Rattle.std.proofs.lemmas.List.Elements.{filter-append}
 use Rattle.std.proofs.lemmas.List.Filters.{length-filter_both}
-use Rattle.std.proofs.lemmas.Bool.{ltb-true, lt-ltb, le-ltb, eqb-true, eq-eqb, cond-true, cond-false}
+use Rattle.std.proofs.lemmas.Bool.{ltb-true, lt-ltb, le-ltb, eqb-true, cond-true, cond-false}
 use Rattle.naming.specs.Words.{Elem, Once, flat}
 use Rattle.naming.specs.Names.{Shape, ByMethod, Over, Carries, ending_at, Carried}
-use Rattle.naming.proofs.Lists.{elem_keep, keep_elem, elem_flat, flat_elem, once_keep, once_flat, keep_all, keep_inner, once_length}
+use Rattle.naming.proofs.Lists.{elem_keep, keep_elem, elem_flat, flat_elem, once_keep, once_flat, keep_inner, once_length}
 use Rattle.naming.proofs.Trees.{sub_le, kid_below, kid_towards}
 use Rattle.naming.proofs.Items.{item_up}
 use Rattle.naming.proofs.Joined.{list_over, over_list, list_once, apart, own_over, split, cut_self}

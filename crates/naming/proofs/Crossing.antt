@@ -1,9 +1,9 @@
-use Rattle.std.proofs.Common.{◌≡◌, ℕ, suc, ◌<◌, ◌≤◌, Bool, true, false, eqb, ltb, ◌≢◌, ◌⊎◌, ◌↔◌, List, [], ◌∷◌, length, sym, refl, ap, ◌∙◌, subst, ap₂, inl, inr, arith}
+use Rattle.std.proofs.Common.{◌≡◌, ℕ, ◌<◌, Bool, true, false, eqb, ltb, ◌⊎◌, ◌↔◌, sym, refl, ap, ◌∙◌, subst, ap₂, inl, inr, arith}
 use mathlib.Core.Bool.{xor}
 use Rattle.std.proofs.lemmas.Bool.{both_ways, eqb-true, eq-eqb, lt-ltb, not_from_true}
 use Rattle.naming.specs.Words.{Elem}
-use Rattle.naming.specs.Names.{Shape, Treelike, Over, Bracket, SameBracketsAt, SameName, top_of, Named}
-use Rattle.naming.specs.Built.{shape_of, Built}
+use Rattle.naming.specs.Names.{Shape, Treelike, Bracket, Named}
+use Rattle.naming.specs.Built.{shape_of}
 use Rattle.naming.specs.Searched.{Searched, Upward, base_of}
 use Rattle.naming.specs.Crossing.{crossing, Outer, Drawn, NamesCross, NamesCrossStands}
 use Rattle.naming.proofs.Searched.{searched_stands, own_link, link_src, link_dst, link_of}

@@ -1,14 +1,14 @@
 -- The back links of a depth-first tree go up to an ancestor, and all links outside the tree are back links or have equal ends.
-use Rattle.std.proofs.Common.{◌≡◌, ℕ, zero, suc, ◌<◌, ◌≤◌, min, max, Bool, true, false, cond, not, ◌&&◌, ◌||◌, eqb, ltb, ◌≢◌, ◌⊎◌, List, [], ◌∷◌, length, Decides, sym, refl, ap, ◌∙◌, subst, inl, inr, arith}
+use Rattle.std.proofs.Common.{◌≡◌, ℕ, zero, suc, ◌<◌, ◌≤◌, Bool, true, false, not, ◌&&◌, eqb, ltb, ◌≢◌, ◌⊎◌, List, [], ◌∷◌, length, Decides, sym, refl, ap, ◌∙◌, subst, inl, inr, arith}
 use Rattle.std.proofs.lemmas.Bool.{cases_eq, cases_Bool, both_ways, and_parts, and_from, not-true, not_from_false, or_cases, eqb-true, eqb-false, eq-eqb, ne_eqb, ltb-true, cond-true, cond-false}
-use Rattle.std.proofs.lemmas.Bool.Decides.{Decides-below_or, Decides-and, Decides-ltb, Decides-eqb, not_from_Decides}
-use Rattle.model.specs.Meaning.{Graph, tail_of, head_of, EndsBelow}
+use Rattle.std.proofs.lemmas.Bool.Decides.{Decides-below_or, Decides-and, Decides-ltb, Decides-eqb}
+use Rattle.model.specs.Meaning.{tail_of, head_of, EndsBelow}
 use Rattle.model.specs.Walks.{Links, closed}
 use Rattle.naming.specs.Words.{Elem, Once}
 use Rattle.naming.specs.Built.{sub_at}
 use Rattle.naming.specs.Searched.{Searched, Upward}
 use Rattle.naming.specs.Crossing.{Outer, Drawn}
-use Rattle.naming.specs.DepthFirst.{Below, DepthFirst, of_tree, from_end, to_end, is_back, back_links, searched, DepthFirstNumbered}
+use Rattle.naming.specs.DepthFirst.{Below, DepthFirst, of_tree, from_end, is_back, back_links, searched, DepthFirstNumbered}
 
 -- the test tells the links of the tree
 pub tree_told : (link : ℕ → ℕ) (n e : ℕ) → Decides (of_tree link n e) ((k : ℕ) × (k < n) × ((0 < k) × (link k ≡ e)))

@@ -1,7 +1,7 @@
 -- The items that end at a number, counted.
-use Rattle.std.proofs.Common.{◌≡◌, ℕ, zero, suc, ◌+◌, ◌-◌, ◌<◌, ◌≤◌, min, max, Bool, true, false, cond, ◌&&◌, eqb, ◌≢◌, ◌⊎◌, List, [], ◌∷◌, ◌++◌, length, filter, sym, refl, ap, ◌∙◌, subst, ap₂, inl, inr, arith, length-append}
+use Rattle.std.proofs.Common.{◌≡◌, ℕ, zero, suc, ◌+◌, ◌-◌, ◌<◌, ◌≤◌, Bool, true, false, cond, ◌&&◌, eqb, ◌≢◌, ◌⊎◌, List, [], ◌∷◌, ◌++◌, length, filter, sym, refl, ap, ◌∙◌, subst, ap₂, inl, inr, arith, length-append}
 use Rattle.std.proofs.lemmas.List.Elements.{filter-append}
-use Rattle.std.proofs.lemmas.Bool.{cases_eq, cases_lt, cases_Bool, and_left, and_right, eq-eqb, ne_eqb, cond-true, cond-false}
+use Rattle.std.proofs.lemmas.Bool.{cases_lt, cases_Bool, and_left, and_right, eq-eqb, ne_eqb, cond-true, cond-false}
 use Rattle.model.specs.Meaning.{EndsBelow}
 use Rattle.model.specs.Walks.{Links}
 use Rattle.naming.specs.Words.{Elem, Once, flat}
@@ -9,7 +9,7 @@ use Rattle.naming.specs.Names.{ending_at}
 use Rattle.naming.specs.Built.{Base, shape_of}
 use Rattle.naming.specs.Searched.{Searched, Upward, low_second, capped, base_of}
 use Rattle.naming.specs.Turns.{numbers, later}
-use Rattle.naming.specs.DepthFirst.{DepthFirst, from_end, to_end, is_back, back_links, searched}
+use Rattle.naming.specs.DepthFirst.{DepthFirst, is_back, back_links, searched}
 use Rattle.naming.specs.Ended.{back_ends, cap_ends, EndsCounted}
 use Rattle.naming.proofs.Searched.{link_dst, cap_dst}
 use Rattle.naming.proofs.Turns.{numbers_in, in_numbers, numbers_once, numbers_none, numbers_more}

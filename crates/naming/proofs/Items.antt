@@ -1,10 +1,10 @@
 -- The lowest dst of a subtree's back links, and what the caps are for.
-use Rattle.std.proofs.Common.{◌≡◌, ℕ, zero, suc, ◌+◌, ◌<◌, ◌≤◌, min, max, Bool, true, false, ◌≢◌, ◌⊎◌, List, [], ◌∷◌, sym, refl, ap, ◌∙◌, subst, inl, inr, arith}
+use Rattle.std.proofs.Common.{◌≡◌, ℕ, zero, suc, ◌+◌, ◌<◌, ◌≤◌, min, true, false, ◌≢◌, ◌⊎◌, sym, ap, ◌∙◌, subst, inl, inr, arith}
 use Rattle.std.proofs.lemmas.Bool.{cases_eq, cases_lt, cases_Bool}
-use Rattle.naming.specs.Words.{Elem, Once, low, second}
-use Rattle.naming.specs.Names.{Shape, Treelike, ByMethod, hi2}
-use Rattle.naming.proofs.Lowest.{low_le, low_some, second_le, second_some, Two}
-use Rattle.naming.proofs.Trees.{sub_self, sub_le, sub_trans, sub_chain, kid_below, kid_towards}
+use Rattle.naming.specs.Words.{Elem, low}
+use Rattle.naming.specs.Names.{Shape, ByMethod, hi2}
+use Rattle.naming.proofs.Lowest.{low_le, low_some, second_le, second_some}
+use Rattle.naming.proofs.Trees.{sub_self, sub_trans, sub_chain, kid_below, kid_towards}
 
 -- x is a back link from the subtree of k
 pub record Under {X : Type 0} (S : Shape X) (k : ℕ) (x : X) : Type 0 where

@@ -1,12 +1,12 @@
 -- What the list of a number holds, and when it is that of a number below, cut down.
-use Rattle.std.proofs.Common.{◌≡◌, ℕ, zero, suc, ◌+◌, ◌<◌, ◌≤◌, Bool, true, false, not, eqb, ltb, ◌≢◌, ◌⊎◌, ◌↔◌, List, [], ◌∷◌, ◌++◌, length, get_or, filter, sym, refl, ap, ◌∙◌, subst, ap₂, inl, inr, arith}
+use Rattle.std.proofs.Common.{◌≡◌, ℕ, zero, suc, ◌+◌, ◌<◌, ◌≤◌, Bool, true, false, not, eqb, ltb, ◌≢◌, ◌⊎◌, List, ◌++◌, filter, sym, refl, ap, ◌∙◌, subst, ap₂, inl, inr, arith}
 use Rattle.std.proofs.lemmas.List.Elements.{filter-append}
-use Rattle.std.proofs.lemmas.Bool.{cases_eq, cases_lt, cases_Bool, both_ways, not-true, not_from_false, eqb-false, ne_eqb, ltb-true, lt-ltb}
+use Rattle.std.proofs.lemmas.Bool.{cases_eq, cases_Bool, not-true, not_from_false, eqb-false, ne_eqb, ltb-true, lt-ltb}
 use Rattle.naming.specs.Words.{Elem, Once, flat}
 use Rattle.naming.specs.Names.{Shape, ByMethod, Over, Bracket}
 use Rattle.naming.proofs.Lists.{elem_left, elem_right, elem_append, elem_keep, keep_elem, elem_flat, flat_elem, once_append, once_keep, once_flat, keep_none, keep_all, keep_inner, keep_flat}
 use Rattle.naming.proofs.Trees.{sub_self, sub_le, sub_trans, sub_chain, kid_below, over_kid, kids_apart, kid_towards}
-use Rattle.naming.proofs.Items.{Under, Pair, cap_pair, item_up}
+use Rattle.naming.proofs.Items.{Under, cap_pair, item_up}
 
 module _ {X : Type 0} (S : Shape X) (law : ByMethod S) where
   abbrev away : ℕ → X → Bool

@@ -1,12 +1,12 @@
 -- The top of a list and its length tell its back links.
-use Rattle.std.proofs.Common.{◌≡◌, ℕ, ◌<◌, ◌≤◌, Bool, true, false, ltb, ◌≢◌, ◌⊎◌, ◌↔◌, List, [], ◌∷◌, ◌++◌, length, get_or, sym, refl, ap, ◌∙◌, subst, ap₂, inl, inr, arith}
-use Rattle.std.proofs.lemmas.Bool.{cases_lt, cases_Bool, both_ways, lt-ltb}
-use Rattle.naming.specs.Words.{Elem, Once, flat}
+use Rattle.std.proofs.Common.{◌≡◌, ℕ, ◌<◌, ◌≤◌, true, false, ltb, ◌≢◌, ◌⊎◌, ◌↔◌, List, [], ◌∷◌, length, get_or, sym, refl, ap, ◌∙◌, subst, inl, inr, arith}
+use Rattle.std.proofs.lemmas.Bool.{cases_lt, cases_Bool, lt-ltb}
+use Rattle.naming.specs.Words.{Elem, flat}
 use Rattle.naming.specs.Names.{Shape, ByMethod, Over, Bracket, SameBracketsAt, SameName, Named}
 use Rattle.naming.proofs.Lists.{elem_keep, keep_elem, keep_all, keep_same, top_front, single, none_empty}
 use Rattle.naming.proofs.Trees.{sub_le, sub_trans, sub_chain, kid_below, kids_apart}
-use Rattle.naming.proofs.Items.{Under, Pair, cap_pair, two_own}
-use Rattle.naming.proofs.Joined.{own_over, list_over, over_list, list_once, bracket, bracket_under, Both, cap_both, some_bracket, cut, Quiet, split, walk}
+use Rattle.naming.proofs.Items.{Under, cap_pair, two_own}
+use Rattle.naming.proofs.Joined.{own_over, list_over, over_list, list_once, bracket, bracket_under, cap_both, some_bracket, cut, Quiet, split, walk}
 
 module _ {X : Type 0} (S : Shape X) (law : ByMethod S) where
   -- a number with a child above j is not below j

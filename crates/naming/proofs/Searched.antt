@@ -1,9 +1,9 @@
 -- The computed items obey the laws.
-use Rattle.std.proofs.Common.{◌≡◌, ℕ, suc, ◌+◌, ◌-◌, ◌<◌, ◌≤◌, Bool, true, false, cond, not, ◌&&◌, eqb, ltb, ◌≢◌, ◌⊎◌, ◌↔◌, List, [], ◌∷◌, ◌++◌, sym, refl, ap, ◌∙◌, subst, ap₂, inl, inr, arith}
-use Rattle.std.proofs.lemmas.Bool.{cases_Bool, both_ways, and_parts, and_from, not-true, not-false, not_from_true, ltb-true, ltb-false, lt-ltb, le-ltb, cond-true, cond-false}
-use Rattle.naming.specs.Words.{Elem, Once, low, second}
-use Rattle.naming.specs.Names.{Shape, Named, Carried, hi2}
-use Rattle.naming.specs.Built.{Base, sub_at, shape_of, Ready, Built}
+use Rattle.std.proofs.Common.{◌≡◌, ℕ, suc, ◌+◌, ◌-◌, ◌<◌, ◌≤◌, true, false, ltb, ◌⊎◌, ◌∷◌, sym, refl, ap, ◌∙◌, subst, inl, inr, arith}
+use Rattle.std.proofs.lemmas.Bool.{cases_Bool, both_ways, and_parts, and_from, not-true, not-false, not_from_true, ltb-true, lt-ltb, le-ltb, cond-true, cond-false}
+use Rattle.naming.specs.Words.{Elem, Once}
+use Rattle.naming.specs.Names.{hi2}
+use Rattle.naming.specs.Built.{Base, sub_at, shape_of, Ready}
 use Rattle.naming.specs.Searched.{Searched, low_own, low_second, capped, base_of, Upward, SearchedStands}
 use Rattle.naming.proofs.Lowest.{low_le, low_some}
 use Rattle.naming.proofs.Built.{built}

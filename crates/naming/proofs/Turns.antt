@@ -1,9 +1,9 @@
 -- The turns of the falling loop.
-use Rattle.std.proofs.Common.{◌≡◌, ℕ, zero, suc, ◌+◌, ◌-◌, ◌<◌, ◌≤◌, min, max, Bool, true, false, eqb, ltb, ◌≢◌, ◌⊎◌, ◌↔◌, List, [], ◌∷◌, ◌++◌, length, filter, sym, refl, ap, ◌∙◌, subst, ap₂, inl, inr, arith, length-append}
+use Rattle.std.proofs.Common.{◌≡◌, ℕ, zero, suc, ◌+◌, ◌-◌, ◌<◌, ◌≤◌, min, max, Bool, eqb, ltb, ◌⊎◌, ◌↔◌, List, [], ◌∷◌, ◌++◌, length, filter, sym, refl, ap, ◌∙◌, subst, ap₂, inl, inr, arith, length-append}
 use Rattle.std.proofs.lemmas.List.Elements.{filter-append}
 use Rattle.std.proofs.lemmas.Bool.{cases_eq, ltb-true, lt-ltb, eq-eqb, cond-true}
 use Rattle.naming.specs.Words.{Elem, Once, flat, low, second}
-use Rattle.naming.specs.Names.{Shape, ByMethod, Carries, ending_at, hi2}
+use Rattle.naming.specs.Names.{ByMethod, Carries, ending_at}
 use Rattle.naming.specs.Built.{Base, kids_from, kids_of, hi_of, shape_of, Ready, Built}
 use Rattle.naming.specs.Turns.{numbers, sofar, later, list_of, State, Sofar, Here, Joins, empty, Turns}
 use Rattle.naming.proofs.Lists.{keep_inner}

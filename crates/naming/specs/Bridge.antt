@@ -1,8 +1,7 @@
 -- Which links cross the subtree of a number, and an example.
-use Rattle.std.specs.Prelude.{◌≡◌, ℕ, ◌<◌, Bool, true, false, ◌||◌, ◌≢◌, ◌↔◌, List, [], ◌∷◌, ◌==◌, slice_index, slice_index_or}
+use Rattle.std.specs.Prelude.{◌≡◌, ℕ, ◌<◌, Bool, true, ◌||◌, ◌↔◌, [], ◌∷◌, ◌==◌, slice_index, slice_index_or}
 use Rattle.std.specs.Bool.{xor}
-use Rattle.naming.specs.Words.{Elem}
-use Rattle.naming.specs.Names.{Shape, Treelike, SameName}
+use Rattle.naming.specs.Names.{Shape, Treelike}
 use Rattle.naming.specs.Built.{shape_of}
 use Rattle.naming.specs.Searched.{Searched, Upward, base_of}
 

@@ -1,6 +1,6 @@
 -- The shape that a program computes: from the parents, the own items and the lowest own dst of each number.
-use Rattle.std.specs.Prelude.{◌≡◌, ℕ, zero, suc, ◌+◌, ◌-◌, ◌<◌, ◌≤◌, min, Bool, true, false, cond, not, ◌&&◌, ◌||◌, List, [], ◌∷◌, ◌++◌, filter, ◌==◌, nat_lt}
-use Rattle.naming.specs.Words.{Elem, Once, flat, low, second}
+use Rattle.std.specs.Prelude.{◌≡◌, ℕ, zero, suc, ◌-◌, ◌<◌, ◌≤◌, min, Bool, true, false, cond, not, ◌&&◌, ◌||◌, List, [], ◌∷◌, ◌++◌, filter, ◌==◌, nat_lt}
+use Rattle.naming.specs.Words.{Elem, Once, flat, low}
 use Rattle.naming.specs.Names.{Shape, ByMethod, hi2}
 
 -- What is given.

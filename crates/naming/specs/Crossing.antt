@@ -1,9 +1,9 @@
 -- The names tell which of the links outside the tree cross a subtree.
-use Rattle.std.specs.Prelude.{◌≡◌, ℕ, suc, ◌<◌, Bool, true, false, ◌≢◌, ◌⊎◌, ◌↔◌, List, [], ◌∷◌, length, ◌==◌}
+use Rattle.std.specs.Prelude.{◌≡◌, ℕ, ◌<◌, Bool, ◌≢◌, ◌⊎◌, ◌↔◌, length, ◌==◌}
 use Rattle.std.specs.Bool.{xor}
 use Rattle.naming.specs.Words.{Elem}
-use Rattle.naming.specs.Names.{Shape, top_of, SameName}
-use Rattle.naming.specs.Built.{sub_at, shape_of}
+use Rattle.naming.specs.Names.{top_of, SameName}
+use Rattle.naming.specs.Built.{shape_of}
 use Rattle.naming.specs.Searched.{Searched, Upward, base_of}
 
 -- exactly one end of link e is in the subtree of k; tail and head give numbers of the tree

@@ -1,6 +1,6 @@
 -- A tree over the numbers 0 .. size - 1, items (back links and caps) that reach from a number, src, to one above it, dst, and for each number the list of
 -- the items that pass the link above it.
-use Rattle.std.specs.Prelude.{◌≡◌, ℕ, ◌+◌, ◌<◌, ◌≤◌, min, Bool, true, false, not, ◌||◌, ◌≢◌, ◌⊎◌, ◌↔◌, List, [], ◌∷◌, ◌++◌, length, filter, ◌==◌, nat_eq, nat_lt, slice_index_or}
+use Rattle.std.specs.Prelude.{◌≡◌, ℕ, ◌+◌, ◌<◌, ◌≤◌, min, Bool, true, false, not, ◌||◌, ◌↔◌, List, [], ◌∷◌, ◌++◌, length, filter, ◌==◌, nat_eq, nat_lt, slice_index_or}
 use Rattle.naming.specs.Words.{Elem, Once, flat, low, second}
 
 -- The tree, its items and its lists. Items are of any type.

@@ -1,8 +1,8 @@
 -- Back links by number, and the caps numbered behind them: all that the theorems ask, computed from the parents and the back links.
-use Rattle.std.specs.Prelude.{◌≡◌, ℕ, suc, ◌+◌, ◌-◌, ◌<◌, ◌≤◌, Bool, true, false, cond, not, ◌&&◌, List, [], ◌∷◌, ◌++◌, nat_lt}
+use Rattle.std.specs.Prelude.{◌≡◌, ℕ, suc, ◌+◌, ◌-◌, ◌<◌, Bool, true, cond, not, ◌&&◌, List, ◌∷◌, nat_lt}
 use Rattle.naming.specs.Words.{Elem, Once, low, second}
-use Rattle.naming.specs.Names.{Shape, Named, Carried}
-use Rattle.naming.specs.Built.{Base, sub_at, kids_all, hi_at, shape_of, Ready, Built}
+use Rattle.naming.specs.Names.{Named, Carried}
+use Rattle.naming.specs.Built.{Base, sub_at, kids_all, hi_at, shape_of, Built}
 
 -- What a search leaves: how many numbers, the parent of each, the back links of each, and from where to where each goes.
 pub record Searched : Type 0 where

@@ -1,7 +1,7 @@
 -- A falling loop over the numbers that keeps, for each number, what its children so far have brought.
 use Rattle.std.specs.Prelude.{◌≡◌, ℕ, zero, suc, ◌+◌, ◌-◌, ◌<◌, ◌≤◌, min, max, ◌≢◌, List, [], ◌∷◌, ◌++◌, length, filter, nat_eq, nat_lt}
-use Rattle.naming.specs.Words.{Elem, flat, low, second}
-use Rattle.naming.specs.Names.{Shape, Carries, ending_at, hi2}
+use Rattle.naming.specs.Words.{flat, low, second}
+use Rattle.naming.specs.Names.{Carries, ending_at, hi2}
 use Rattle.naming.specs.Built.{Base, kids_from, hi_of, shape_of, Ready}
 use Rattle.naming.specs.Searched.{Searched, Upward, base_of}
 

@@ -1,5 +1,5 @@
 -- A text that spells frames ends in a line feed.
-use Rattle.std.proofs.Common.{◌≡◌, ℕ, ◌+◌, ◌-◌, List, [], ◌∷◌, ◌++◌, length, get_or, sym, ap, ◌∙◌, append_assoc, append-nil, arith}
+use Rattle.std.proofs.Common.{◌≡◌, ℕ, ◌-◌, List, [], ◌∷◌, ◌++◌, length, get_or, sym, ap, ◌∙◌, append_assoc, append-nil, arith}
 use Rattle.std.proofs.lemmas.List.{length_push, get_or_push}
 use Rattle.text.specs.Decoded.{Ended}
 use Rattle.text.specs.Spelling.{digits_of, spelled, Spells}

@@ -1,5 +1,5 @@
 -- Fragments that are put in, and the steps' homes and the links' fragments among them.
-use Rattle.std.proofs.Common.{◌≡◌, ℕ, zero, suc, ◌+◌, ◌<◌, ◌≤◌, Bool, true, false, cond, List, [], ◌∷◌, ◌++◌, length, get_or, replicate, Some, None, Option, sym, ap, ◌∙◌, subst, arith, lit<}
+use Rattle.std.proofs.Common.{◌≡◌, ℕ, zero, suc, ◌+◌, ◌<◌, ◌≤◌, Bool, true, false, cond, List, [], ◌∷◌, ◌++◌, length, get_or, replicate, None, Option, sym, ap, subst, arith, lit<}
 use Rattle.std.proofs.lemmas.List.{length_push}
 use Rattle.theory.proofs.Elements.{each_push, each_push_at, each_weaken, each_replicate, each_some_none, each_some_weaken}
 use Rattle.rows.specs.declared.nesting.Fragment.{Fragment}

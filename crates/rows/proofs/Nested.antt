@@ -2,7 +2,7 @@
 use Rattle.std.proofs.Common.{◌≡◌, ℕ, ◌+◌, ◌<◌, ◌≤◌, ◌⊎◌, List, length, get_or, inl, inr, arith}
 use Rattle.std.proofs.lemmas.List.{get_or_past}
 use Rattle.std.proofs.lemmas.Bool.{cases_lt}
-use Rattle.rows.specs.Runs.{depth_at, RunAt, RunsFrom, NestedRuns}
+use Rattle.rows.specs.Runs.{RunAt, RunsFrom, NestedRuns}
 
 pub nested : (depths runs : List ℕ) → length runs ≡ length depths → RunsFrom depths 0 runs → NestedRuns runs
 nested depths runs e told =

@@ -1,5 +1,5 @@
 -- The kind of a fragment by the counts of its own steps.
-use Rattle.std.specs.Prelude.{ℕ, ◌+◌, ◌-◌, ◌^◌, min, Bool, true, false, cond, ◌&&◌, ◌||◌, ◌==◌, nat_le}
+use Rattle.std.specs.Prelude.{ℕ, ◌+◌, min, Bool, true, false, cond, ◌&&◌, ◌||◌, ◌==◌, nat_le}
 use Rattle.model.specs.declared.kinds.Kind.{Kind}
 use Rattle.model.specs.declared.kinds.Kind.TheVariants.{Single, Choice, Parallel, Loop, MeshOne, MeshAll, Mixed}
 use Rattle.model.specs.declared.numbers.Logic.{Logic}

@@ -3,11 +3,9 @@ use Rattle.std.proofs.Common.{◌≡◌, ℕ, ◌<◌, ◌≤◌, ◌⊎◌, ref
 use mathlib.Core.HLevel.{⊥_prop}
 use mathlib.Core.Logic.{∥∥₁_elim}
 use Rattle.std.proofs.lemmas.Bool.{cases_lt}
-use Rattle.model.specs.Meaning.{Graph, tail_of, head_of}
-use Rattle.search.specs.declared.shapes.ShapeFault.{ShapeFault}
+use Rattle.model.specs.Meaning.{tail_of, head_of}
 use Rattle.search.specs.declared.shapes.ShapeFault.TheVariants.{EntersFirst, LeavesLast, NotReached, NoWayOut, Memory}
 use Rattle.search.specs.Laws.{OneFault, SoundHasNone}
-use Rattle.model.specs.Walks.{Sound}
 use Rattle.search.specs.Walks.{LeadsTo}
 
 -- the smallest number with a property is one

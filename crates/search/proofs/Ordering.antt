@@ -1,14 +1,14 @@
 -- What each turn of the search for an order keeps.
-use Rattle.std.proofs.Common.{◌≡◌, ℕ, zero, suc, ◌+◌, ◌<◌, ◌≤◌, Bool, true, false, cond, eqb, ◌⊎◌, List, [], ◌∷◌, ◌++◌, length, get_or, set, replicate, Some, None, MatchBool, sym, refl, ap, ◌∙◌, subst, inl, inr, add-one, arith, length-set}
+use Rattle.std.proofs.Common.{◌≡◌, ℕ, zero, suc, ◌+◌, ◌<◌, ◌≤◌, Bool, true, false, eqb, ◌⊎◌, List, [], ◌∷◌, ◌++◌, length, get_or, set, replicate, Some, None, MatchBool, sym, refl, ap, ◌∙◌, subst, inl, inr, add-one, arith, length-set}
 use Rattle.std.proofs.lemmas.List.{get_or_append_left, get_or-set_same, get_or-set_other, get_or_default, get_or_past, length_push, get_or_push, get_or-replicate, length-replicate}
-use Rattle.std.proofs.lemmas.Bool.{cases_eq, cases_lt, cases_Bool, cond_both, eqb-true, eqb-false, true≢false, false≢true}
+use Rattle.std.proofs.lemmas.Bool.{cases_eq, cases_lt, cases_Bool, cond_both, eqb-true, eqb-false, false≢true}
 use Rattle.lists.specs.declared.cells.Cell.{Cell}
 use Rattle.lists.specs.declared.cells.Chain.{Chain}
 use Rattle.lists.specs.Rows.{Rows, put, top, rest}
 use Rattle.lists.proofs.Tables.{top_some, top_none}
 use Rattle.model.specs.declared.numbers.LinkNo.{LinkNo}
 use Rattle.model.specs.declared.numbers.StepNo.{StepNo}
-use Rattle.model.specs.Meaning.{tail_of, head_of, EndsBelow}
+use Rattle.model.specs.Meaning.{tail_of, head_of}
 use Rattle.search.specs.Joined.{add}
 use Rattle.model.specs.Walks.{Walks}
 use Rattle.search.specs.Searched.{link_at, leaving, InOrder, Searched}

@@ -1,9 +1,8 @@
 -- The arcs at each step: each link stands at both of its ends, and nothing else does.
-use Rattle.std.proofs.Common.{◌≡◌, ℕ, zero, suc, ◌+◌, ◌<◌, ◌≤◌, Bool, true, false, cond, eqb, ◌⊎◌, List, [], ◌∷◌, map, length, get_or, sym, refl, ap, ◌∙◌, subst, inl, inr, add-one, arith}
-use Rattle.std.proofs.lemmas.Bool.{cond_both, eqb-true, cond-true, cond-false, eqb-false, cases_eq, cases_lt}
+use Rattle.std.proofs.Common.{◌≡◌, ℕ, zero, suc, ◌+◌, ◌<◌, ◌≤◌, true, eqb, ◌⊎◌, List, [], ◌∷◌, map, length, get_or, sym, refl, ap, ◌∙◌, subst, inl, inr, add-one, arith}
+use Rattle.std.proofs.lemmas.Bool.{cond_both, eqb-true, cond-true, cond-false, eqb-false, cases_eq}
 use Rattle.lists.specs.declared.cells.Cell.{Cell}
 use Rattle.lists.specs.declared.cells.Chain.{Chain}
-use Rattle.lists.specs.Holds.{Holds, nil}
 use Rattle.lists.specs.Rows.{Rows, put}
 use Rattle.lists.proofs.Tables.{rows_same}
 use Rattle.search.specs.declared.arcs.Arc.{Arc}

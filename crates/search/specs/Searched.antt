@@ -1,5 +1,5 @@
 -- What the order of search says of a graph.
-use Rattle.std.specs.Prelude.{◌≡◌, ℕ, zero, suc, ◌<◌, Bool, true, false, ◌⊎◌, List, [], ◌∷◌, length, get_or, slice_index_or}
+use Rattle.std.specs.Prelude.{◌≡◌, ℕ, zero, suc, ◌<◌, Bool, true, false, ◌⊎◌, List, [], length, get_or, slice_index_or}
 use Rattle.model.specs.declared.numbers.LinkNo.{LinkNo}
 use Rattle.model.specs.Meaning.{tail_of, head_of}
 use Rattle.search.specs.Joined.{add}

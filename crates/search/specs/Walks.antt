@@ -1,5 +1,5 @@
 -- What soundness asks, one part at a time.
-use Rattle.std.specs.Prelude.{◌≡◌, ℕ, ◌<◌, List, length, ◌≢◌}
+use Rattle.std.specs.Prelude.{ℕ, ◌<◌, List, length, ◌≢◌}
 use Rattle.model.specs.Meaning.{Graph, tail_of, head_of}
 use Rattle.model.specs.Walks.{Walks}
 

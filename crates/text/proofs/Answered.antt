@@ -1,5 +1,5 @@
 -- The laws of spelling and reading.
-use Rattle.std.proofs.Common.{◌≡◌, ℕ, ◌+◌, ◌<◌, ◌≤◌, true, ◌⊎◌, List, [], ◌++◌, length, is_ok, Ok, Err, vec_items, Result, sym, refl, ap, ◌∙◌, subst, inl, inr, ⊎_elim, append-nil, arith}
+use Rattle.std.proofs.Common.{◌≡◌, ℕ, ◌+◌, ◌<◌, ◌≤◌, true, List, [], ◌++◌, length, is_ok, Ok, Err, vec_items, Result, sym, refl, ap, ◌∙◌, subst, inl, inr, ⊎_elim, append-nil, arith}
 use Rattle.std.proofs.lemmas.List.{length-map}
 use Rattle.text.specs.Decoded.{bytes_of, line_feeds, frames_in, Ended, Stops, WholeFault, Read, Decoded}
 use Rattle.text.specs.Laws.{SpellingServes, SpellingTells, SpelledIsRead, ReadIsSpelled, OneAnswer}

@@ -1,5 +1,5 @@
 -- Tests that compute what walks can do: which steps a walk reaches without passing a link, and which links share a class.
-use Rattle.std.specs.Prelude.{ℕ, zero, suc, ◌+◌, Bool, true, false, cond, not, ◌&&◌, ◌||◌, List, [], ◌∷◌, length, set, replicate, ◌==◌, slice_index_or, slice_set}
+use Rattle.std.specs.Prelude.{ℕ, zero, suc, ◌+◌, Bool, true, false, cond, not, ◌&&◌, ◌||◌, List, [], ◌∷◌, length, replicate, ◌==◌, slice_index_or, slice_set}
 use Rattle.model.specs.Meaning.{tail_of, head_of}
 use Rattle.model.specs.Walks.{Links}
 

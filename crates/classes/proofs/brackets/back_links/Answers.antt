@@ -1,4 +1,4 @@
-use Rattle.std.proofs.Common.{◌≡◌, ◌+◌, ◌<◌, length, vec_items, sym, ◌∙◌, arith}
+use Rattle.std.proofs.Common.{◌<◌, length, vec_items, arith}
 use Rattle.lists.proofs.Holding.{holding_new}
 use Rattle.theory.proofs.Elements.{each_some_read}
 use Rattle.classes.specs.Held.{Item}

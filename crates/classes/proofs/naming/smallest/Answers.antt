@@ -1,4 +1,4 @@
-use Rattle.std.proofs.Common.{◌<◌, length, vec_items, ap, arith, rules}
+use Rattle.std.proofs.Common.{◌<◌, length, vec_items, arith, rules}
 use Rattle.theory.proofs.Elements.{each_nil, each_pushed, each_some_none, each_some_or, each_some_set}
 use Rattle.classes.specs.Bounds.{Below}
 use Rattle.classes.proofs.naming.smallest.Goals as goal

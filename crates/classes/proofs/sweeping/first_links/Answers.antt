@@ -1,8 +1,8 @@
-use Rattle.std.proofs.Common.{ℕ, ◌-◌, ◌<◌, ◌≤◌, length, vec_items, arith}
+use Rattle.std.proofs.Common.{ℕ, ◌-◌, ◌<◌, length, vec_items, arith}
 use Rattle.search.specs.Numbered.{none}
 use Rattle.search.specs.declared.trees.Visit.{Visit}
 use Rattle.theory.proofs.Elements.{each_read_at}
-use Rattle.classes.proofs.Sweeps.{swept_own, swept_as, cases_map}
+use Rattle.classes.proofs.Sweeps.{swept_own, cases_map}
 use Rattle.classes.proofs.sweeping.first_links.Goals as goal
 
 pub turn-requires : goal.turn-requires

@@ -1,4 +1,4 @@
-use Rattle.std.proofs.Common.{◌≡◌, ◌+◌, ◌/◌, ◌%◌, ◌<◌, ◌≤◌, length, decimal, sym, ap, arith}
+use Rattle.std.proofs.Common.{◌+◌, ◌/◌, ◌%◌, length, decimal, sym, ap, arith}
 use Rattle.std.proofs.lemmas.List.{length_push}
 use Rattle.lines.proofs.Writes.{then, one, same, digits_one, digits_more}
 use Rattle.lines.proofs.putting.+digits.Goals as goal

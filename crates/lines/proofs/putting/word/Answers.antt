@@ -1,4 +1,4 @@
-use Rattle.std.proofs.Common.{◌≡◌, List, [], length, take, sym, ap, ◌∙◌, arith, length-take}
+use Rattle.std.proofs.Common.{sym, ◌∙◌, arith, length-take}
 use Rattle.std.proofs.lemmas.List.{take_more, take_all, length_push}
 use Rattle.lines.proofs.Writes.{then, one, same}
 use Rattle.lines.proofs.putting.word.Goals as goal

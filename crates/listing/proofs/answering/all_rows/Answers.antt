@@ -1,4 +1,4 @@
-use Rattle.std.proofs.Common.{◌≡◌, ◌++◌, drop, vec_items, sym, ap, ◌∙◌}
+use Rattle.std.proofs.Common.{◌++◌, drop, vec_items, sym, ap, ◌∙◌}
 use Rattle.book.specs.declared.books.Book.{Book}
 use Rattle.book.specs.Calls.{rows_of, next_of}
 use Rattle.listing.specs.Answers.{lines_of}

@@ -1,4 +1,4 @@
-use Rattle.std.proofs.Common.{◌≡◌, ℕ, drop, ap, ◌∙◌}
+use Rattle.std.proofs.Common.{ℕ, drop, ap, ◌∙◌}
 use Rattle.book.specs.Calls.{rows_of}
 use Rattle.plan.specs.Table.{meaning_of}
 use Rattle.listing.specs.Answers.{lines_of}

@@ -1,4 +1,4 @@
-use Rattle.std.proofs.Common.{◌≡◌, ◌<◌, length, vec_items, arith}
+use Rattle.std.proofs.Common.{◌<◌, length, vec_items, arith}
 use Rattle.lists.proofs.Holding.{holding_new, holding_push}
 use Rattle.theory.proofs.Elements.{each_read, each_read_at, each_some_read}
 use Rattle.rows.specs.Nests.{no_fragment, ParentBelow, Above, Inner}

@@ -1,4 +1,4 @@
-use Rattle.std.proofs.Common.{◌≡◌, ◌<◌, ◌≤◌, length, replicate, IfSome, vec_items, vec_len, Option, refl, ap, ◌∙◌, subst, arith}
+use Rattle.std.proofs.Common.{◌<◌, ◌≤◌, length, replicate, IfSome, vec_items, vec_len, Option, refl, ap, ◌∙◌, subst, arith}
 use Rattle.lists.proofs.Holding.{holding_pop}
 use Rattle.rows.specs.declared.arranging.Record.{Record}
 use Rattle.rows.specs.Orders.{Known}

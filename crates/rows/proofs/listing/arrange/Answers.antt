@@ -1,4 +1,4 @@
-use Rattle.std.proofs.Common.{◌≡◌, List, length, vec_items, Option, sym, ap, subst, arith}
+use Rattle.std.proofs.Common.{List, length, vec_items, Option, sym, ap, subst, arith}
 use Rattle.model.specs.declared.numbers.LinkNo.{LinkNo}
 use Rattle.theory.proofs.Elements.{each_some_weaken}
 use Rattle.rows.specs.Bounds.{Below, SomeBelow}

@@ -1,6 +1,5 @@
-use Rattle.std.proofs.Common.{◌<◌, length, Some, None, vec_items, arith}
+use Rattle.std.proofs.Common.{◌<◌, length, vec_items, arith}
 use Rattle.theory.proofs.Elements.{each_some_read}
-use Rattle.rows.specs.Bounds.{Below}
 use Rattle.rows.specs.Nests.{Inner}
 use Rattle.rows.proofs.listing.kinds.Goals as goal
 

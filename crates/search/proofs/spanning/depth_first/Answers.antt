@@ -1,10 +1,9 @@
-use Rattle.std.proofs.Common.{◌≡◌, ℕ, List, map, length, sym, ap, ◌∙◌, subst, arith}
+use Rattle.std.proofs.Common.{ℕ, List, map, length, sym, ap, ◌∙◌, subst, arith}
 use Rattle.std.proofs.lemmas.List.{length-map}
 use Rattle.model.specs.declared.numbers.Ends.{Ends}
 use Rattle.model.specs.Meaning.{EndsBelow, pair_of}
 use Rattle.search.specs.Copied.{graph_of}
 use Rattle.search.specs.Spans.{Spans}
-use Rattle.model.specs.Walks.{closed}
 use Rattle.search.proofs.Closing.{more, closed_below, connected, made_map}
 use Rattle.search.proofs.spanning.depth_first.Goals as goal
 

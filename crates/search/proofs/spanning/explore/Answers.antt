@@ -1,5 +1,4 @@
-use Rattle.std.proofs.Common.{◌≡◌, ℕ, ◌+◌, ◌<◌, ◌≤◌, map, length, vec_len, sym, ◌∙◌, subst, arith}
-use Rattle.std.proofs.lemmas.List.{length-map}
+use Rattle.std.proofs.Common.{ℕ, ◌<◌, map, length, vec_len, sym, ◌∙◌, subst, arith}
 use Rattle.lists.proofs.Tables.{none_popped}
 use Rattle.model.specs.Meaning.{pair_of}
 use Rattle.search.specs.Joined.{arcs_of}

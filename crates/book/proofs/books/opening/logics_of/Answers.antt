@@ -1,5 +1,4 @@
-use Rattle.std.proofs.Common.{arith}
-use Rattle.book.proofs.Logics.{logics_more, logics_all, logics_few}
+use Rattle.book.proofs.Logics.{logics_more, logics_all}
 use Rattle.book.proofs.books.opening.logics_of.Goals as goal
 
 pub loop-logic-preserved : goal.loop-logic-preserved

@@ -1,4 +1,4 @@
-use Rattle.std.proofs.Common.{◌<◌, length, vec_items, arith}
+use Rattle.std.proofs.Common.{length, vec_items, arith}
 use Rattle.theory.proofs.Elements.{each_some_set}
 use Rattle.rows.specs.Nests.{Inner}
 use Rattle.rows.proofs.Grows.{grown}

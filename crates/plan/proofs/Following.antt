@@ -1,7 +1,7 @@
 -- What the frames of a table's beginning were written from is determined, and each frame of a table may come where it comes.
 use Rattle.std.proofs.Common.{◌≡◌, ℕ, ◌+◌, ◌<◌, ◌≤◌, ◌⊎◌, List, [], ◌∷◌, ◌++◌, map, length, get_or, Some, None, Option, sym, refl, ap, ◌∙◌, subst, inl, inr, ⊎_elim, arith}
 use Rattle.std.proofs.lemmas.List.{length-append}
-use Rattle.std.specs.List.{AllByRecursion as All}
+use Rattle.std.specs.List.{AllByRecursion}
 use Rattle.model.specs.Meaning.{Meaning}
 use Rattle.model.specs.Words.{logic_number}
 use Rattle.model.specs.declared.numbers.Logic.{Logic}
@@ -21,7 +21,7 @@ one_first P (f ∷ fs) a b x y =
     (λ (u : P f × First P fs a). ⊎_elim (λ (v : (f ≡ b) × (P f → ⊥)). absurd (v.1 u.0)) (λ (v : P f × First P fs b). one_first P fs a b u.1 v.1) y)
     x
 
-pub none_first : (P : PlanFault → Type 0) (fs : List PlanFault) (e : PlanFault) → All P fs → First P fs e → ⊥
+pub none_first : (P : PlanFault → Type 0) (fs : List PlanFault) (e : PlanFault) → AllByRecursion P fs → First P fs e → ⊥
 none_first P [] e all x = x
 none_first P (f ∷ fs) e all x =
     ⊎_elim (λ (u : (f ≡ e) × (P f → ⊥)). u.1 all.0) (λ (u : P f × First P fs e). none_first P fs e all.1 u.1) x
@@ -34,7 +34,7 @@ one_beginning frames (Some μ) (Some ν) b b' = ap Some (one_meaning μ ν b.1 b
 
 -- the next frame passes all checks
 Good : Option Meaning → ℕ → List ℕ → ℕ → Type 0
-Good told kind fields n = All (Passes told kind fields) (line_faults n)
+Good told kind fields n = AllByRecursion (Passes told kind fields) (line_faults n)
 
 moved : (told : Option Meaning) (kind kind' n : ℕ) (fields fields' : List ℕ) → kind ∷ fields ≡ kind' ∷ fields' → Good told kind' fields' n → Good told kind fields n
 moved told kind kind' n fields fields' e good =

@@ -1,7 +1,7 @@
 -- Frames tell what they were written from.
 use Rattle.std.proofs.Common.{◌≡◌, ℕ, ◌/◌, ◌%◌, ◌<◌, ◌⊎◌, List, [], ◌∷◌, ◌++◌, map, length, get_or, sym, refl, ap, ◌∙◌, inl, inr, ⊎_elim, arith}
 use Rattle.std.proofs.ByRecursion.{All-append, All-from_get_or, All-map}
-use Rattle.std.specs.List.{AllByRecursion as All}
+use Rattle.std.specs.List.{AllByRecursion}
 use Rattle.model.specs.Meaning.{Meaning, Limits}
 use Rattle.model.specs.declared.numbers.Logic.{Logic}
 use Rattle.model.specs.declared.numbers.Logic.TheVariants.{One, All as Every}
@@ -99,18 +99,18 @@ next_frame (a ∷ ks) (b ∷ js) ls ms x more e =
     (next_frame ks js ls ms x more back)
 
 -- the frames of a plan are frames
-small : (a b : ℕ) → a < 65536 → b < 65536 → All (λ i. i < 256) (two_numbers a b)
+small : (a b : ℕ) → a < 65536 → b < 65536 → AllByRecursion (λ i. i < 256) (two_numbers a b)
 small a b ha hb = (omega arith, (omega arith, (omega arith, (omega arith, tt))))
 
-pub all_frames : (μ : Meaning) → Limits μ → All IsFrame (frames_of μ)
+pub all_frames : (μ : Meaning) → Limits μ → AllByRecursion IsFrame (frames_of μ)
 all_frames μ h =
     let n = μ.graph.steps in
-    let links : All IsFrame (map link_frame μ.graph.links) = All-map IsFrame link_frame μ.graph.links (All-from_get_or (λ p. IsFrame (link_frame p)) μ.graph.links (0, 0) (λ k lt. let w = h.ends_below k lt in (omega arith, (omega arith, small _ _ (omega (arith, w.0, h.few_steps)) (omega (arith, w.1, h.few_steps)))))) in (
+    let links : AllByRecursion IsFrame (map link_frame μ.graph.links) = All-map IsFrame link_frame μ.graph.links (All-from_get_or (λ p. IsFrame (link_frame p)) μ.graph.links (0, 0) (λ k lt. let w = h.ends_below k lt in (omega arith, (omega arith, small _ _ (omega (arith, w.0, h.few_steps)) (omega (arith, w.1, h.few_steps)))))) in (
       (omega arith, (omega arith, small μ.graph.first μ.graph.last (omega (arith, h.first_below, h.few_steps)) (omega (arith, h.last_below, h.few_steps)))),
       All-append IsFrame (map step_frame μ.logics) (map link_frame μ.graph.links) (steps μ.logics) links,
     )
   where
-    steps : (logics : List Logic) → All IsFrame (map step_frame logics)
+    steps : (logics : List Logic) → AllByRecursion IsFrame (map step_frame logics)
     steps [] = tt
     steps (One ∷ logics) = ((omega arith, (omega arith, (omega arith, tt))), steps logics)
     steps (Every ∷ logics) = ((omega arith, (omega arith, (omega arith, tt))), steps logics)

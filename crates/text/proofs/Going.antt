@@ -4,7 +4,7 @@ use native.Mathlib.Nat.{sub-zero}
 use Rattle.std.proofs.ByRecursion.{All-push}
 use Rattle.std.proofs.lemmas.List.{length-append, length-drop, length_push, map_push, flat_map_more, take-append-drop, drop_more, get_or-append-add, get_or_append_left, get_or_push, nil_from_length}
 use Rattle.std.proofs.lemmas.Bool.{eq-eqb, ne_eqb, cond-true, cond-false, cases_lt}
-use Rattle.std.specs.List.{AllByRecursion as All}
+use Rattle.std.specs.List.{AllByRecursion}
 use Rattle.std.specs.declared.alloc.Global.{Global}
 use Rattle.text.specs.Decoded.{bytes_of, Spelt, IsFrame, Numbered, Ended, Stops, Read}
 use Rattle.text.specs.Line.{first_line, LineFault}
@@ -32,7 +32,7 @@ pub record Going (text : List ℕ) (frames : List Frame) (rest : List ℕ) (line
   pub short : length text ≤ 65535
   pub ended : Ended text
   pub begins : text ≡ spelled (map bytes_of frames) ++ rest
-  pub good : All IsFrame (map bytes_of frames)
+  pub good : AllByRecursion IsFrame (map bytes_of frames)
   pub numbered : Numbered frames
   pub next : line ≡ length frames + 1
   pub left : line + length rest ≤ length text + 1
@@ -83,7 +83,7 @@ one_more text frames rest line g i f h e some s frames' rest' ef er =
       short = g.short;
       ended = g.ended;
       begins = grown text rest (map bytes_of frames) (bytes_of f) i g.begins h e s.spells ∙ ap (λ fs. spelled fs ++ drop (i + 1) rest) (sym push);
-      good = subst (λ (xs : List (List ℕ)). All IsFrame xs) (sym push) (All-push IsFrame (map bytes_of frames) (bytes_of f) g.good (omega arith, s.small));
+      good = subst (λ (xs : List (List ℕ)). AllByRecursion IsFrame xs) (sym push) (All-push IsFrame (map bytes_of frames) (bytes_of f) g.good (omega arith, s.small));
       numbered = numbered_push frames f g.numbered (s.numbered ∙ g.next);
       next = ap (λ n. n + 1) g.next ∙ ap (λ n. n + 1) (sym (length_push frames f));
       left = left;

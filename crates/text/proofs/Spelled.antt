@@ -3,7 +3,7 @@ use Rattle.std.proofs.Common.{◌≡◌, ℕ, zero, suc, ◌*◌, ◌/◌, ◌%�
 use Rattle.std.proofs.lemmas.List.{append_cancel_left, length-append}
 use Rattle.std.proofs.lemmas.Bool.{cond-false}
 use Rattle.std.proofs.lemmas.Bool.Decides.{nat_tests}
-use Rattle.std.specs.List.{AllByRecursion as All}
+use Rattle.std.specs.List.{AllByRecursion}
 use Rattle.text.specs.Decoded.{IsFrame}
 use Rattle.text.specs.Digit.{hex, digit_of}
 use Rattle.text.specs.Line.{first_line, Digits, GoodLine}
@@ -25,7 +25,7 @@ first_spelled (b ∷ g) more =
     cond-false _ _ _ (hex_no_feed (b / 16))
     ∙ ap (λ xs. hex (b / 16) ∷ xs) (cond-false _ _ _ (hex_no_feed (b % 16)) ∙ ap (λ xs. hex (b % 16) ∷ xs) (first_spelled g more))
 
-digits_good : (g : List ℕ) → All (λ b. b < 256) g → Digits (digits_of g) (length (digits_of g))
+digits_good : (g : List ℕ) → AllByRecursion (λ b. b < 256) g → Digits (digits_of g) (length (digits_of g))
 digits_good [] small k h = absurd (not-suc-le-zero h)
 digits_good (b ∷ g) small zero h = hex_digit (b / 16) (omega (arith, small.0))
 digits_good (b ∷ g) small (suc zero) h = hex_digit (b % 16) (omega arith)
@@ -42,7 +42,7 @@ good_line g f = record {
   even = omega (arith, digits_even g);
 }
 
-digits_same : (f g : List ℕ) → All (λ b. b < 256) f → All (λ b. b < 256) g → digits_of f ≡ digits_of g → f ≡ g
+digits_same : (f g : List ℕ) → AllByRecursion (λ b. b < 256) f → AllByRecursion (λ b. b < 256) g → digits_of f ≡ digits_of g → f ≡ g
 digits_same [] [] sf sg e = refl
 digits_same [] (c ∷ g) sf sg e = absurd (omega (arith, ap length e))
 digits_same (b ∷ f) [] sf sg e = absurd (omega (arith, ap length e))
@@ -75,7 +75,7 @@ unfolding spelled
 spelled_nil rest = refl
 
 -- the frames that a text begins with, up to where it stops, and what is left are determined
-pub one_way : (fs gs : List (List ℕ)) (r s : List ℕ) → All IsFrame fs → All IsFrame gs → Stuck r → Stuck s → spelled fs ++ r ≡ spelled gs ++ s → (fs ≡ gs) × (r ≡ s)
+pub one_way : (fs gs : List (List ℕ)) (r s : List ℕ) → AllByRecursion IsFrame fs → AllByRecursion IsFrame gs → Stuck r → Stuck s → spelled fs ++ r ≡ spelled gs ++ s → (fs ≡ gs) × (r ≡ s)
 one_way [] [] r s ff fg kr ks e = (refl, sym (spelled_nil r) ∙ e ∙ spelled_nil s)
 one_way [] (g ∷ gs) r s ff fg kr ks e = absurd (not_stuck g (spelled gs ++ s) r fg.0 (sym (spelled_nil r) ∙ e ∙ spelled_cons g gs s) kr)
 one_way (f ∷ fs) [] r s ff fg kr ks e = absurd (not_stuck f (spelled fs ++ r) s ff.0 (sym (spelled_nil s) ∙ sym e ∙ spelled_cons f fs r) ks)

@@ -4,7 +4,7 @@ use Rattle.std.proofs.ByRecursion.{All-push}
 use Rattle.std.proofs.lemmas.List.{take_all, take_more, flat_map_more, length-take-le}
 use Rattle.std.proofs.lemmas.List.Sums.{count_by-le-length, count_by_more_yes, count_by_more_no}
 use Rattle.std.proofs.lemmas.Bool.{eq-eqb, ne_eqb}
-use Rattle.std.specs.List.{AllByRecursion as All}
+use Rattle.std.specs.List.{AllByRecursion}
 use Rattle.text.specs.Decoded.{line_feeds}
 use Rattle.text.specs.Spelling.{hex_pair, digits_of}
 
@@ -32,7 +32,7 @@ pairs_more bytes ds k b h e p =
 
 -- the first k pairs of digits spell the bytes
 abbrev pub Pairs : List ℕ → List ℕ → ℕ → Type 0
-Pairs bytes ds k = (digits_of bytes ≡ take (2 * k) ds) × All (λ b. b < 256) bytes
+Pairs bytes ds k = (digits_of bytes ≡ take (2 * k) ds) × AllByRecursion (λ b. b < 256) bytes
 
 -- two digits more, one byte more
 pub pair_more : (kind : ℕ) (fields fields' ds : List ℕ) (k b : ℕ) → Pairs (kind ∷ fields) ds k → fields' ≡ fields ++ b ∷ [] → b < 256 → 2 * k + 1 < length ds → hex_pair b ≡ get_or ds (2 * k) 0 ∷ get_or ds (2 * k + 1) 0 ∷ [] → Pairs (kind ∷ fields') ds (k + 1)

@@ -1,6 +1,6 @@
 -- What comes out of a text.
 use Rattle.std.specs.Prelude.{◌≡◌, ℕ, ◌+◌, ◌-◌, ◌<◌, ◌≤◌, ◌⊎◌, List, [], ◌∷◌, ◌++◌, map, length, Ok, Err, vec_items, count_by, Result, ◌≢◌, nat_eq, slice_index, slice_index_or}
-use Rattle.std.specs.List.{AllByRecursion as All}
+use Rattle.std.specs.List.{AllByRecursion}
 use Rattle.text.specs.Spelling.{digits_of, Spells}
 use Rattle.text.specs.Line.{first_line, LineFault}
 use Rattle.text.specs.declared.faults.TextFault.{TextFault}
@@ -16,11 +16,11 @@ bytes_of f = f.kind ∷ vec_items f.fields
 pub record Spelt (line : ℕ) (digits : List ℕ) (f : Frame) : Type 0 where
   pub numbered : f.line ≡ line
   pub spells : digits_of (bytes_of f) ≡ digits
-  pub small : All (λ b. b < 256) (bytes_of f)
+  pub small : AllByRecursion (λ b. b < 256) (bytes_of f)
 
 -- a frame is some bytes
 abbrev pub IsFrame : List ℕ → Type 0
-IsFrame bytes = (0 < length bytes) × All (λ b. b < 256) bytes
+IsFrame bytes = (0 < length bytes) × AllByRecursion (λ b. b < 256) bytes
 
 -- the frames that came out, as bytes
 abbrev pub frames_in : Frames → List (List ℕ)
@@ -60,7 +60,7 @@ pub record Read (text : List ℕ) (out : Frames) : Type 0 where
   pub rest : List ℕ
   pub parts : text ≡ front ++ rest
   pub spells : Spells front (frames_in out)
-  pub frames : All IsFrame (frames_in out)
+  pub frames : AllByRecursion IsFrame (frames_in out)
   pub numbered : Numbered (vec_items out.frames)
   pub stops : Stops (length (vec_items out.frames) + 1) rest out.end
 

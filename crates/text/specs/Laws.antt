@@ -1,6 +1,6 @@
 -- What holds of spelling and reading as a whole.
 use Rattle.std.specs.Prelude.{◌≡◌, ℕ, true, List, is_ok, Ok, Err, Result, ◌≢◌}
-use Rattle.std.specs.List.{AllByRecursion as All}
+use Rattle.std.specs.List.{AllByRecursion}
 use Rattle.text.specs.Decoded.{IsFrame, frames_in, Read, Decoded}
 use Rattle.text.specs.Spelling.{spelled, Spells}
 use Rattle.text.specs.declared.decoding.Frames.{Frames}
@@ -13,11 +13,11 @@ SpellingServes = (fs : List (List ℕ)) → Spells (spelled fs) fs
 
 -- frames that are spelled alike are the same
 abbrev pub SpellingTells : Type 0
-SpellingTells = (text : List ℕ) (fs gs : List (List ℕ)) → All IsFrame fs → All IsFrame gs → Spells text fs → Spells text gs → fs ≡ gs
+SpellingTells = (text : List ℕ) (fs gs : List (List ℕ)) → AllByRecursion IsFrame fs → AllByRecursion IsFrame gs → Spells text fs → Spells text gs → fs ≡ gs
 
 -- a text that spells frames is read to its end, and gives these frames
 abbrev pub SpelledIsRead : Type 0
-SpelledIsRead = (text : List ℕ) (fs : List (List ℕ)) → All IsFrame fs → Spells text fs → (out : Frames) → Read text out → (frames_in out ≡ fs) × (out.end ≡ Ok tt)
+SpelledIsRead = (text : List ℕ) (fs : List (List ℕ)) → AllByRecursion IsFrame fs → Spells text fs → (out : Frames) → Read text out → (frames_in out ≡ fs) × (out.end ≡ Ok tt)
 
 -- a text that is read to its end spells what came out
 abbrev pub ReadIsSpelled : Type 0

@@ -8,9 +8,10 @@ use Rattle.lists.specs.Rows.{put}
 use Rattle.model.specs.Meaning.{EndsBelow}
 use Rattle.model.specs.Walks.{Links}
 use Rattle.naming.specs.Words.{low}
-use Rattle.naming.specs.Built.{Base}
+use Rattle.naming.specs.Names.{ending_at}
+use Rattle.naming.specs.Built.{Base, shape_of}
 use Rattle.naming.specs.Searched.{Searched, Upward, base_of}
-use Rattle.naming.specs.Turns.{State, Sofar, empty}
+use Rattle.naming.specs.Turns.{later, State, Sofar, empty}
 use Rattle.naming.specs.DepthFirst.{DepthFirst, from_end, to_end, is_back, back_links, searched}
 use Rattle.naming.specs.Ended.{back_ends, cap_ends}
 use Rattle.naming.proofs.DepthFirst.{links_none, links_yes, links_no, upward}
@@ -140,13 +141,15 @@ module _ (G : Links) (n : ℕ) (number link : ℕ → ℕ) where
 
 -- states that agree below k
 pub sofar_same : (B : Base ℕ) (k : ℕ) (s t : State ℕ) → Sofar B k s → ((p : ℕ) → p < k → t.items p ≡ s.items p) → ((p : ℕ) → p < k → t.len p ≡ s.len p) →
-    ((p : ℕ) → p < k → t.lo p ≡ s.lo p) → ((p : ℕ) → p < k → t.lo2 p ≡ s.lo2 p) → Sofar B k t
-sofar_same B k s t so a b c d =
+    ((p : ℕ) → p < k → t.lo p ≡ s.lo p) → ((p : ℕ) → p < k → t.lo2 p ≡ s.lo2 p) →
+    ((p : ℕ) → p < k → t.ends p ≡ length (ending_at (shape_of B) p (later B k))) → Sofar B k t
+sofar_same B k s t so a b c d f =
     record {
       items_is = λ p l. ap (filter (λ x. ltb (B.dst x) p)) (a p l) ∙ so.items_is p l;
       len_is = λ p l. b p l ∙ so.len_is p l;
       lo_is = λ p l. c p l ∙ so.lo_is p l;
       lo2_is = λ p l. d p l ∙ so.lo2_is p l;
+      ends_is = f;
     }
 
 module _ (G : Links) (n : ℕ) (within : EndsBelow n G) (number step parent link : ℕ → ℕ) (T : DepthFirst G n number step parent link) where
@@ -158,8 +161,8 @@ module _ (G : Links) (n : ℕ) (within : EndsBelow n G) (number step parent link
         long = B.long;
         right = λ j. All-weaker (Good G n number link (length G)) (λ b. b.to ≡ (base_of P).dst b.item) (λ b h. h.1 ∙ sym (link_dst P good b.item h.0)) (rows j) (B.right j);
         own = B.own;
-        sofar = sofar_same (base_of P) n (empty (base_of P)) (state rows levels) (turns (base_of P) (ready P good)).start
-            (λ p l. ap items (B.none p l)) (λ p l. ap (λ (x : Level). x.len) (B.known p l)) (λ p l. ap (λ (x : Level). x.hi1) (B.known p l)) (λ p l. ap (λ (x : Level). x.hi2) (B.known p l));
+        sofar = sofar_same (base_of P) n (empty (base_of P)) (state P n rows levels) (turns (base_of P) (ready P good)).start
+            (λ p l. ap items (B.none p l)) (λ p l. ap (λ (x : Level). x.len) (B.known p l)) (λ p l. ap (λ (x : Level). x.hi1) (B.known p l)) (λ p l. ap (λ (x : Level). x.hi2) (B.known p l)) (λ p l. refl);
         hi0 = λ p l. ap (λ (x : Level). x.hi0) (B.known p l);
         ends = λ p l. ap (λ (x : Level). x.ends) (B.known p l) ∙ none p;
       }

@@ -4,7 +4,7 @@ use Rattle.std.specs.Option.{unwrap_or}
 use Rattle.model.specs.Meaning.{EndsBelow, pair_of}
 use Rattle.model.specs.Walks.{Links}
 use Rattle.search.specs.Spans.{par_of, step_of, link_of}
-use Rattle.search.specs.declared.spanning.Spanning.{Spanning}
+use Rattle.brackets.specs.declared.spanning.Spanning.{Spanning}
 use Rattle.search.specs.declared.trees.Visit.{Visit}
 use Rattle.naming.specs.Searched.{Searched}
 use Rattle.naming.specs.Classes.{length_at}

@@ -8,8 +8,9 @@ ghost use Rattle.brackets.specs.Live.{live, left, passed, with_cap, capped_level
 ghost use Rattle.brackets.specs.Method.{size_of, Whole};
 
 use crate::levels::Level;
+use crate::spanning::Spanning;
 use lists::{Lists, NoMemory};
-use search::{Spanning, Visit};
+use search::Visit;
 
 // A back link by its number, or a cap by the closed plan's link count and the number it starts from; and the number that it ends at.
 #[derive(Clone, Copy)]

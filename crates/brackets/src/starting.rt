@@ -9,10 +9,10 @@ ghost use Rattle.brackets.specs.Live.{with_start, started};
 ghost use Rattle.brackets.specs.Method.{links_of, visits_of, size_of, number_of, Whole};
 
 use crate::levels::Level;
+use crate::spanning::Spanning;
 use crate::sweeping::{Bracket, Sweep};
 use lists::{Lists, NoMemory};
 use model::{Ends, StepNo};
-use search::Spanning;
 use std::alloc::Global;
 
 // For each link of the closed plan, whether it is in the tree.

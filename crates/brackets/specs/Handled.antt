@@ -2,7 +2,7 @@
 use Rattle.std.specs.Prelude.{◌≡◌, ℕ, ◌+◌, List, vec_items, vec_len}
 use Rattle.lists.specs.Rows.{Rows}
 use Rattle.naming.specs.Classes.{top_at, length_at}
-use Rattle.search.specs.declared.spanning.Spanning.{Spanning}
+use Rattle.brackets.specs.declared.spanning.Spanning.{Spanning}
 use Rattle.brackets.specs.declared.sweeping.Bracket.{Bracket}
 use Rattle.brackets.specs.declared.sweeping.Name.{Name}
 use Rattle.brackets.specs.declared.sweeping.Sweep.{Sweep}

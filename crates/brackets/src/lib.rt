@@ -2,7 +2,9 @@
 #![tactic(auto)]
 
 pub mod levels;
+pub mod spanning;
 pub mod starting;
 pub mod sweeping;
 
+pub use spanning::Spanning;
 pub use sweeping::{Name, Sweep};

@@ -1,20 +1,22 @@
 -- One number is handled.
-use Rattle.std.proofs.Common.{◌≡◌, ℕ, suc, ◌+◌, ◌-◌, ◌<◌, ◌≤◌, min, max, Bool, true, false, cond, ◌&&◌, eqb, ltb, ◌≢◌, ◌⊎◌, List, [], ◌∷◌, ◌++◌, length, Some, None, Option, sym, refl, ap, ◌∙◌, subst, ap₂, inl, inr, arith}
+use Rattle.std.proofs.Common.{◌≡◌, ℕ, suc, ◌+◌, ◌-◌, ◌<◌, ◌≤◌, min, max, Bool, true, false, cond, ◌&&◌, eqb, ltb, ◌≢◌, ◌⊎◌, List, [], ◌∷◌, ◌++◌, length, filter, Some, None, Option, sym, refl, ap, ◌∙◌, subst, ap₂, inl, inr, arith, length-append}
 use Rattle.std.specs.Option.{option_map}
 use Rattle.std.specs.List.{AllByRecursion}
 use Rattle.std.proofs.ByRecursion.{All-append}
+use Rattle.std.proofs.lemmas.List.Elements.{filter-append}
 use Rattle.std.proofs.lemmas.List.{map-append, length-map}
 use Rattle.std.proofs.lemmas.Bool.{cases_eq, cases_Bool, and_parts, ltb-true, ltb-false, lt-ltb, eq-eqb, ne_eqb, cond-true, cond-false, cond_both}
 use Rattle.lists.specs.Rows.{put, top}
+use Rattle.naming.specs.Words.{flat}
 use Rattle.naming.specs.Names.{Shape, Carries, Carried, top_of, ending_at}
 use Rattle.naming.specs.Built.{Base, hi_of, shape_of}
 use Rattle.naming.specs.Searched.{Searched, Upward, low_own, low_second, capped, base_of}
-use Rattle.naming.specs.Turns.{later, list_of, Here, Joins, sofar}
+use Rattle.naming.specs.Turns.{numbers, later, list_of, Here, Joins, sofar}
 use Rattle.naming.specs.Classes.{top_at, length_at}
 use Rattle.naming.specs.Ended.{cap_ends}
 use Rattle.naming.proofs.Bounded.{bounded}
 use Rattle.naming.proofs.Searched.{ready, cap_dst, searched_stands}
-use Rattle.naming.proofs.Turns.{turns}
+use Rattle.naming.proofs.Turns.{numbers_more, turns}
 use Rattle.brackets.specs.declared.levels.Level.{Level}
 use Rattle.brackets.specs.declared.sweeping.Bracket.{Bracket}
 use Rattle.brackets.specs.Levels.{level, change, having_end, having_child, has_cap}
@@ -81,8 +83,8 @@ module _ (P : Searched) (good : Upward P) where
     up : P.parent v < v
     up = good.up v pv lv
 
-    here : Here B v (state rows levels)
-    here = (turns B (ready P good)).here v (state rows levels) lv W.sofar
+    here : Here B v (state P (suc v) rows levels)
+    here = (turns B (ready P good)).here v (state P (suc v) rows levels) lv W.sofar
 
     -- hi0 and hi2 of v are known when v is handled
     hi2_told : (level levels v).hi2 ≡ low_second P v
@@ -250,7 +252,14 @@ module _ (P : Searched) (good : Upward P) where
     other_level : {A : Type 0} (f : Level → A) → ((l : Level) → f (having_end l) ≡ f l) → (p : ℕ) → u ≢ p → f (level levels2 p) ≡ f (level levels p)
     other_level f same p d = ap f (change_other levels1 u child p (λ e. d (sym e))) ∙ field f same p
 
-    joins : Joins B v (items left) (state rows levels) (state rows4 levels2)
+    -- the own items of v that end at p, and those of the numbers behind it
+    ends_more : (p : ℕ) → length (ending_at S p (later B v)) ≡ length (filter (λ x. eqb (B.dst x) p) (B.own v)) + length (ending_at S p (later B (suc v)))
+    ends_more p =
+        ap (λ i. length (ending_at S p i)) (ap (λ (i : ℕ). numbers i v) (let e : n - v ≡ suc (n - suc v) = omega arith in e) ∙ numbers_more (n - suc v) v) ∙
+        ap length (filter-append (λ x. eqb (B.dst x) p) (B.own v) (flat B.own (later B (suc v)))) ∙
+        length-append (filter (λ x. eqb (B.dst x) p) (B.own v)) (ending_at S p (later B (suc v)))
+
+    joins : Joins B v (items left) (state P (suc v) rows levels) (state P v rows4 levels2)
     joins =
         record {
           items_up = ap items at_u ∙ map-append (λ b. b.item) left (rows u);
@@ -261,6 +270,7 @@ module _ (P : Searched) (good : Upward P) where
           lo_rest = λ p h. other_level (λ l. l.hi1) (λ l. refl) p;
           lo2_up = ap (λ (l : Level). l.hi2) parent_level ∙ ap₂ min (ap₂ max (sym high_told) (field (λ l. l.hi1) (λ l. refl) u)) (field (λ l. l.hi2) (λ l. refl) u);
           lo2_rest = λ p h. other_level (λ l. l.hi2) (λ l. refl) p;
+          ends_up = λ p h. ends_more p;
         }
 
     -- what does not change by a child
@@ -298,7 +308,7 @@ module _ (P : Searched) (good : Upward P) where
           long = change_long levels1 u child ∙ long1;
           right = right4;
           own = λ p h. let k = up in ap items (keep4 (n + p) (λ e. absurd (omega arith)) (λ e. absurd (omega arith)) (λ e. absurd (omega arith))) ∙ W.own p (omega arith);
-          sofar = (turns B (ready P good)).next v (state rows levels) (state rows4 levels2) (items left) pv lv W.sofar left_carries joins;
+          sofar = (turns B (ready P good)).next v (state P (suc v) rows levels) (state P v rows4 levels2) (items left) pv lv W.sofar left_carries joins;
           hi0 = λ p l. at_child (λ l. l.hi0) (λ l. refl) p ∙ field (λ l. l.hi0) (λ l. refl) p ∙ W.hi0 p l;
           ends = ends;
         }

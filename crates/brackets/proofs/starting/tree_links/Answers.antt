@@ -9,13 +9,13 @@ use Rattle.brackets.proofs.starting.tree_links.Goals as goal
 
 pub loop-k-init : goal.loop-k-init
 loop-k-init c =
-    let e = c.in-ok-in-tree.ensures.items-if-clones-equal (λ y e. search rules) in (
-      omega (arith, c.in-ok-in-tree.ensures.len, c.len.ensures, length-map (vec_items c.args.search.now.links) pair_of, c.args.search.now.links.ok.0, c.in-ok-in-tree.in_tree.ok.0),
-      unmarked (link_of (visits_of c.args.search.now)) c.len.result (vec_items c.in-ok-in-tree.in_tree) e,
+    let e = c.in_ok-in_tree.ensures.items_if_clones_equal (λ y e. search rules) in (
+      omega (arith, c.in_ok-in_tree.ensures.len, c.len.ensures, length-map (vec_items c.args.search.now.links) pair_of, c.args.search.now.links.ok.0, c.in_ok-in_tree.in_tree.ok.0),
+      unmarked (link_of (visits_of c.args.search.now)) c.len.result (vec_items c.in_ok-in_tree.in_tree) e,
     )
 
-pub index-mut-requires : goal.index-mut-requires
-index-mut-requires c =
+pub index_mut-requires : goal.index_mut-requires
+index_mut-requires c =
     let s = c.args.search.now in
     let k = c.loop-k.k in
     let lt : k < length (visits_of s) = omega (arith, s.tree.visits.ok.0) in

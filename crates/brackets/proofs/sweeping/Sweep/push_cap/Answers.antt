@@ -3,8 +3,8 @@ use Rattle.brackets.specs.declared.levels.Level.{Level}
 use Rattle.brackets.proofs.Seen.{level_read, cap_some}
 use Rattle.brackets.proofs.sweeping.Sweep.push_cap.Goals as goal
 
-pub with-end-requires : goal.with-end-requires
-with-end-requires c =
+pub with_end-requires : goal.with_end-requires
+with_end-requires c =
     let ls = c.args.self.now.levels in
     let to = c.in-Some.to in
     let below = cap_some c.index.result.now c.args.v to c.in-Some.ensures in

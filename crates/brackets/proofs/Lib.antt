@@ -4,3 +4,4 @@ pub mod Changes
 pub mod Begun
 pub mod Turn
 pub mod Seen
+pub mod Looked

@@ -5,3 +5,4 @@ pub mod Begun
 pub mod Turn
 pub mod Seen
 pub mod Looked
+pub mod Handling

@@ -1,9 +1,8 @@
 -- One link of the closed plan looked at, as the loop over the links does it.
-use Rattle.std.proofs.Common.{◌≡◌, ℕ, suc, ◌+◌, ◌^◌, ◌<◌, ◌≤◌, Bool, true, false, not, ◌&&◌, eqb, ◌≢◌, List, length, sym, ap, ◌∙◌, subst, add-one, arith}
+use Rattle.std.proofs.Common.{◌≡◌, ℕ, suc, ◌+◌, ◌^◌, ◌<◌, Bool, true, false, not, ◌&&◌, eqb, ◌≢◌, List, length, sym, ap, ◌∙◌, subst, add-one, arith}
 use Rattle.std.proofs.lemmas.Bool.{and_right, eq-eqb, ne_eqb}
 use Rattle.model.specs.Meaning.{tail_of, head_of}
 use Rattle.naming.specs.DepthFirst.{of_tree, from_end, to_end, is_back}
-use Rattle.naming.specs.Ended.{back_ends}
 use Rattle.search.specs.Spans.{link_of}
 use Rattle.brackets.specs.declared.levels.Level.{Level}
 use Rattle.brackets.specs.declared.spanning.Spanning.{Spanning}
@@ -52,9 +51,9 @@ module _ (s : Spanning) (l : ℕ) where
           (subst (λ (i : ℕ). At (suc l) (with_start (size_of s) rows l i to) (started levels i to)) (sym f)
           (subst (λ (i : ℕ). At (suc l) (with_start (size_of s) rows l (from_end (links_of s) (size_of s) (number_of s) (link_of (visits_of s)) l) i) (started levels (from_end (links_of s) (size_of s) (number_of s) (link_of (visits_of s)) l) i)) (sym t)
           (begun_more (links_of s) (size_of s) (number_of s) (link_of (visits_of s)) l rows levels B
-            (ap (λ (b : Bool). not b && not (eqb tail_number head_number)) outside ∙ ap not (ne_eqb tail_number head_number apart))
-            (let a = tail_below in let b = head_below in omega arith)
-            (let a : tail_number ≢ head_number = apart in omega arith))))
+          (ap (λ (b : Bool). not b && not (eqb tail_number head_number)) outside ∙ ap not (ne_eqb tail_number head_number apart))
+          (let a = tail_below in let b = head_below in omega arith)
+          (let a : tail_number ≢ head_number = apart in omega arith))))
 
       pub few_ends : (to : ℕ) → to < size_of s → (level levels to).ends + 1 < 2 ^ 32
       few_ends to lt =

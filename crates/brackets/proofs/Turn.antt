@@ -1,17 +1,17 @@
 -- One number is handled.
-use Rattle.std.proofs.Common.{◌≡◌, ℕ, suc, ◌+◌, ◌-◌, ◌<◌, ◌≤◌, min, max, Bool, true, false, cond, ◌&&◌, eqb, ltb, ◌≢◌, ◌⊎◌, List, [], ◌∷◌, ◌++◌, length, filter, Some, None, Option, sym, refl, ap, ◌∙◌, subst, ap₂, inl, inr, arith, length-append}
+use Rattle.std.proofs.Common.{◌≡◌, ℕ, suc, ◌+◌, ◌-◌, ◌<◌, ◌≤◌, min, max, Bool, true, false, cond, ◌&&◌, eqb, ltb, ◌≢◌, ◌⊎◌, List, [], ◌∷◌, ◌++◌, length, filter, Some, sym, refl, ap, ◌∙◌, subst, ap₂, inl, inr, arith, length-append}
 use Rattle.std.specs.Option.{option_map}
 use Rattle.std.specs.List.{AllByRecursion}
 use Rattle.std.proofs.ByRecursion.{All-append}
 use Rattle.std.proofs.lemmas.List.Elements.{filter-append}
 use Rattle.std.proofs.lemmas.List.{map-append, length-map}
-use Rattle.std.proofs.lemmas.Bool.{cases_eq, cases_Bool, and_parts, ltb-true, ltb-false, lt-ltb, eq-eqb, ne_eqb, cond-true, cond-false, cond_both}
+use Rattle.std.proofs.lemmas.Bool.{cases_eq, cases_Bool, and_parts, ltb-true, ltb-false, eq-eqb, ne_eqb, cond-true, cond-false, cond_both}
 use Rattle.lists.specs.Rows.{put, top}
 use Rattle.naming.specs.Words.{flat}
-use Rattle.naming.specs.Names.{Shape, Carries, Carried, top_of, ending_at}
+use Rattle.naming.specs.Names.{Shape, Carries, Carried, ending_at}
 use Rattle.naming.specs.Built.{Base, hi_of, shape_of}
 use Rattle.naming.specs.Searched.{Searched, Upward, low_own, low_second, capped, base_of}
-use Rattle.naming.specs.Turns.{numbers, later, list_of, Here, Joins, sofar}
+use Rattle.naming.specs.Turns.{numbers, later, Here, Joins}
 use Rattle.naming.specs.Classes.{top_at, length_at}
 use Rattle.naming.specs.Ended.{cap_ends}
 use Rattle.naming.proofs.Bounded.{bounded}
@@ -230,7 +230,7 @@ module _ (P : Searched) (good : Upward P) where
     field f same p =
         ap f (level1 p) ∙ cond_both (ends_here p) (having_end (level levels p)) (level levels p) (λ x. f x ≡ f (level levels p)) (λ _. same (level levels p)) (λ _. refl)
 
-    long1 : length levels1 ≡ n
+    pub long1 : length levels1 ≡ n
     long1 = cond_both (has_cap (level levels v) v) (change levels (level levels v).hi2 having_end) levels (λ ls. length ls ≡ n) (λ _. change_long levels (level levels v).hi2 having_end ∙ W.long) (λ _. W.long)
 
     -- the parent learns of v

@@ -25,7 +25,7 @@ pub record Begun (G : Links) (n : ℕ) (number link : ℕ → ℕ) (m : ℕ) (ro
       (p : ℕ) → p < n →
       level levels p ≡ record { hi0 = low n (to_end G n number link) (back_links G n number link m p); hi1 = n; hi2 = n; len = 0; ends = back_ends G n number link m p }
 
--- What the program holds for each number, as the turns of the method have it when the numbers from k on are handled. How many of their items end at a number is no field of the program's: it counts the ends of brackets to come as well.
+-- What the program holds for each number, as the turns of the method have it when the numbers from k on are handled. They count the ends of these numbers' own items alone, by the definition: the program's count has the back links to come as well.
 abbrev pub state : Searched → ℕ → (ℕ → List Bracket) → List Level → State ℕ
 state P k rows levels =
     record {

@@ -1,12 +1,11 @@
-use Rattle.std.proofs.Common.{◌≡◌, ℕ, ◌+◌, ◌<◌, min, max, false, List, [], length, replicate, vec_items, vec_len, sym, ap, ◌∙◌, subst, ap₂, arith}
+use Rattle.std.proofs.Common.{◌≡◌, ℕ, ◌+◌, ◌<◌, min, max, false, [], length, replicate, vec_items, vec_len, sym, ap, ◌∙◌, subst, ap₂, arith}
 use Rattle.std.proofs.lemmas.List.{length-map, get_or_read}
 use Rattle.lists.specs.Rows.{Rows}
 use Rattle.model.specs.Meaning.{pair_of}
 use Rattle.search.specs.Spans.{link_of, step_of, par_of}
-use Rattle.brackets.specs.declared.levels.Level.{Level}
 use Rattle.brackets.specs.Levels.{bare}
 use Rattle.brackets.specs.Live.{with_start}
-use Rattle.brackets.specs.Method.{links_of, visits_of, size_of, number_of, Whole}
+use Rattle.brackets.specs.Method.{links_of, visits_of, size_of, number_of}
 use Rattle.brackets.specs.Swept.{Begun}
 use Rattle.brackets.proofs.Begun.{begun_none, begun_swept}
 use Rattle.brackets.proofs.Looked.{tree_link_skipped, loop_skipped, back_link_put, few_ends}

@@ -1,4 +1,4 @@
-use Rattle.std.proofs.Common.{◌<◌, vec_items, vec_len, ap, arith}
+use Rattle.std.proofs.Common.{vec_items, ap, arith}
 use Rattle.brackets.specs.declared.levels.Level.{Level}
 use Rattle.brackets.proofs.Seen.{level_read, cap_some}
 use Rattle.brackets.proofs.sweeping.Sweep.push_cap.Goals as goal

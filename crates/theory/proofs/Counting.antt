@@ -3,7 +3,7 @@ use Rattle.std.proofs.Common.{◌≡◌, ℕ, zero, suc, ◌+◌, ◌<◌, ◌�
 use Rattle.std.proofs.lemmas.Bool.{cases_eq, cases_Bool, both_ways}
 use Rattle.model.specs.Parts.{how_many, Exactly}
 
--- a test that passes no more has no larger how-many
+-- a test that passes no more has no larger how_many
 pub how_many_le : (t u : ℕ → Bool) (n : ℕ) → ((s : ℕ) → s < n → t s ≡ true → u s ≡ true) → how_many t n ≤ how_many u n
 how_many_le t u zero h = omega arith
 how_many_le t u (suc n) h = pick (how_many_le t u n (λ s l. h s (omega arith))) (cases_Bool (t n)) (cases_Bool (u n))

@@ -50,7 +50,7 @@ module _ (S : Shape ℕ) (tree : Treelike S) where
   same_sub' t f z more (suc m) v h l = pick (cases_eq v 0) (same_sub' t f z more m (S.parent v))
     where
       pick : (v ≡ 0) ⊎ (v ≡ 0 → ⊥) → (S.parent v < m → S.parent v < S.size → f (S.parent v) ≡ S.sub t (S.parent v)) → f v ≡ S.sub t v
-      pick (inl e) next = ap f e ∙ z ∙ sym (tree.sub-zero t) ∙ ap (S.sub t) (sym e)
+      pick (inl e) next = ap f e ∙ z ∙ sym (tree.sub_zero t) ∙ ap (S.sub t) (sym e)
       pick (inr d) next =
           let p : 0 < v = omega arith in
           let u = tree.up v p l in

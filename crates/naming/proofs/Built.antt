@@ -118,9 +118,9 @@ module _ {X : Type 0} (B : Base X) (ready : Ready B) where
           let u = ready.up v (omega arith) l in
           ap (λ (w : Bool). eqb v t || (ltb 0 v && w)) (next (omega arith) (omega arith) (omega arith))
 
-  sub-zero : (t : ℕ) → sub_at P 1 t 0 ≡ eqb 0 t
+  sub_zero : (t : ℕ) → sub_at P 1 t 0 ≡ eqb 0 t
   unfolding sub_at
-  sub-zero t = or_false (eqb 0 t)
+  sub_zero t = or_false (eqb 0 t)
 
   sub_more : (t v : ℕ) → 0 < v → v < B.size → sub_at P (suc v) t v ≡ (eqb v t || sub_at P (suc (P v)) t (P v))
   unfolding sub_at
@@ -146,7 +146,7 @@ module _ {X : Type 0} (B : Base X) (ready : Ready B) where
   tree =
       record {
         up = ready.up;
-        sub-zero = sub-zero;
+        sub_zero = sub_zero;
         sub_more = sub_more;
         kid = λ k c _ m. kid B.size P ready.up k c m;
         kid_of = λ c h l. in_kids P (B.size - 1) 1 (P c) c (omega arith) (omega arith) refl;

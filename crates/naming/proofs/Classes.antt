@@ -73,7 +73,7 @@ module _ (g : Graph) (sound : Sound g) (P : Searched) (number step link : ℕ �
         is_link = λ v l d. N.is_link (number v) (positive v l d) (N.number_below v l);
         joins = λ v l d. ends v (N.step_number v l) (N.joins (number v) (positive v l d) (N.number_below v l));
         apart = λ v w lv dv lw dw e. sym (N.step_number v lv) ∙ ap step (N.apart (number v) (number w) (positive v lv dv) (N.number_below v lv) (positive w lw dw) (N.number_below w lw) e) ∙ N.step_number w lw;
-        sub_root = λ t l d. ap (S.sub (number t)) (N.number_step 0 (let b = sound.begins in omega arith)) ∙ tree.sub-zero (number t) ∙ ne_eqb 0 (number t) (λ e. let p = positive t l d in omega arith);
+        sub_root = λ t l d. ap (S.sub (number t)) (N.number_step 0 (let b = sound.begins in omega arith)) ∙ tree.sub_zero (number t) ∙ ne_eqb 0 (number t) (λ e. let p = positive t l d in omega arith);
         sub_more = λ t v lt lv d. tree.sub_more (number t) (number v) (positive v lv d) (in_size v lv) ∙ ap₂ ◌||◌ (same_step v t lv lt) (ap (S.sub (number t)) (sym (back v lv d)));
         sub_up = λ t v lt lv l. none t v lv l (cases_Bool (S.sub (number t) (number v)));
       }

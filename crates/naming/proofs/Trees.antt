@@ -17,7 +17,7 @@ module _ {X : Type 0} (S : Shape X) (tree : Treelike S) where
       more p (inr q) = inr (p, q)
 
       pick : (v ≡ 0) ⊎ (v ≡ 0 → ⊥) → (v ≡ t) ⊎ ((0 < v) × Sub t (S.parent v))
-      pick (inl e) = inl (e ∙ eqb-true 0 t (sym (tree.sub-zero t) ∙ ap (S.sub t) (sym e) ∙ s))
+      pick (inl e) = inl (e ∙ eqb-true 0 t (sym (tree.sub_zero t) ∙ ap (S.sub t) (sym e) ∙ s))
       pick (inr d) =
           let p : 0 < v = omega arith in
           more p (or_cases (eqb v t) (S.sub t (S.parent v)) (sym (tree.sub_more t v p l) ∙ s))
@@ -26,7 +26,7 @@ module _ {X : Type 0} (S : Shape X) (tree : Treelike S) where
   sub_self v l = pick (cases_eq v 0)
     where
       pick : (v ≡ 0) ⊎ (v ≡ 0 → ⊥) → Sub v v
-      pick (inl e) = ap (S.sub v) e ∙ tree.sub-zero v ∙ eq-eqb 0 v (sym e)
+      pick (inl e) = ap (S.sub v) e ∙ tree.sub_zero v ∙ eq-eqb 0 v (sym e)
       pick (inr d) = tree.sub_more v v (omega arith) l ∙ or_left (eqb v v) (S.sub v (S.parent v)) (eq-eqb v v refl)
 
   pub sub_down : (t v : ℕ) → 0 < v → v < S.size → Sub t (S.parent v) → Sub t v

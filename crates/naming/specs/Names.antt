@@ -29,7 +29,7 @@ hi2 S k = second S.size S.hi (S.kids k)
 -- Parents have lower numbers, and subtrees and children are as the parents say.
 pub record Treelike {X : Type 0} (S : Shape X) : Type 0 where
   pub up : (k : ℕ) → 0 < k → k < S.size → S.parent k < k
-  pub sub-zero : (t : ℕ) → S.sub t 0 ≡ (0 == t)
+  pub sub_zero : (t : ℕ) → S.sub t 0 ≡ (0 == t)
   pub sub_more : (t v : ℕ) → 0 < v → v < S.size → S.sub t v ≡ (v == t || S.sub t (S.parent v))
   pub kid : (k c : ℕ) → k < S.size → Elem c (S.kids k) → (0 < c) × (c < S.size) × (S.parent c ≡ k)
   pub kid_of : (c : ℕ) → 0 < c → c < S.size → Elem c (S.kids (S.parent c))

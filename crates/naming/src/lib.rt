@@ -70,7 +70,7 @@ pub fn turns_stand() -> u8
     0
 }
 
-// No list gets longer than there are back links and caps.
+// No list gets longer than there are links and numbers together, nor do the lists of the children of one number.
 pub fn lists_are_bounded() -> u8
     ensures { ListsBounded }
 {

@@ -1,14 +1,14 @@
 -- How long lists can get: no item stands twice, and there are so many items.
 use Rattle.std.proofs.Common.{◌≡◌, ℕ, zero, suc, ◌+◌, ◌-◌, ◌<◌, ◌≤◌, List, length, refl, ap, ◌∙◌, inl, inr, arith}
 use Rattle.naming.specs.Words.{Elem, Once, flat}
-use Rattle.naming.specs.Names.{Shape, ByMethod}
+use Rattle.naming.specs.Names.{Shape}
 use Rattle.naming.specs.Built.{shape_of, kids_of}
 use Rattle.naming.specs.Searched.{Searched, Upward, base_of}
 use Rattle.naming.specs.Turns.{numbers, sofar, Bounded, ListsBounded}
 use Rattle.naming.proofs.Lists.{elem_flat, once_flat, once_length}
 use Rattle.naming.proofs.Joined.{list_over, list_once, apart}
 use Rattle.naming.proofs.Built.{kids_in, in_kids, kids_once}
-use Rattle.naming.proofs.Searched.{Own, own_cases, searched_stands}
+use Rattle.naming.proofs.Searched.{Own, own_cases, law}
 use Rattle.naming.proofs.Turns.{in_numbers, numbers_none, numbers_more}
 
 length_numbers : (m k : ℕ) → length (numbers m k) ≡ m
@@ -25,12 +25,9 @@ module _ (P : Searched) (good : Upward P) where
   abbrev S : Shape ℕ
   S = shape_of (base_of P)
 
-  law : ByMethod S
-  law = (searched_stands P good 0).0.by_method
-
   item_below : (k x : ℕ) → k < P.size → Elem x (S.list k) → x < P.many + P.size
   item_below k x l m =
-      let o = list_over S law k x l m in
+      let o = list_over S (law P good) k x l m in
       pick o.within (own_cases P good (S.src x) x o.item)
     where
       pick : S.src x < P.size → Own P good (S.src x) x → x < P.many + P.size
@@ -46,11 +43,11 @@ module _ (P : Searched) (good : Upward P) where
   pub bounded : Bounded P
   bounded =
       record {
-        list = λ k l. once_below (S.list k) (P.many + P.size) (list_once S law k l) (λ x. item_below k x l);
+        list = λ k l. once_below (S.list k) (P.many + P.size) (list_once S (law P good) k l) (λ x. item_below k x l);
         kids = λ k p z l lp.
             once_below (flat S.list (sofar (base_of P) k p)) (P.many + P.size)
-            (once_flat S.list (sofar (base_of P) k p) (kids_once P.parent (P.size - k) k p) (λ c m. list_once S law c (kid k p c z l lp m).0)
-            (λ c d x mc md. apart S law p c d x lp (kid k p c z l lp mc).1 (kid k p d z l lp md).1))
+            (once_flat S.list (sofar (base_of P) k p) (kids_once P.parent (P.size - k) k p) (λ c m. list_once S (law P good) c (kid k p c z l lp m).0)
+            (λ c d x mc md. apart S (law P good) p c d x lp (kid k p c z l lp mc).1 (kid k p d z l lp md).1))
             (λ x m. let r = elem_flat S.list x (sofar (base_of P) k p) m in item_below r.0 x (kid k p r.0 z l lp r.1).0 r.2);
       }
 

@@ -1,17 +1,12 @@
 -- The computed shape obeys the laws.
-use Rattle.std.proofs.Common.{◌≡◌, ℕ, zero, suc, ◌+◌, ◌-◌, ◌<◌, ◌≤◌, min, Bool, true, false, not, ◌&&◌, ◌||◌, eqb, ltb, ◌⊎◌, List, [], ◌∷◌, ◌++◌, filter, sym, refl, ap, ◌∙◌, subst, ap₂, inl, inr, arith}
-use Rattle.std.proofs.lemmas.Bool.{cases_eq, cases_Bool, eqb-true, eq-eqb, ne_eqb, lt-ltb, cond-true, cond-false}
+use Rattle.std.proofs.Common.{◌≡◌, ℕ, zero, suc, ◌+◌, ◌-◌, ◌<◌, ◌≤◌, min, Bool, not, ◌&&◌, ◌||◌, eqb, List, [], ◌∷◌, ◌++◌, filter, sym, refl, ap, ◌∙◌, ap₂, inl, inr, arith}
+use Rattle.std.proofs.lemmas.Bool.Decides.{nat_tests}
+use Rattle.naming.proofs.Lists.{flat_same}
+use Rattle.std.proofs.Math.Bool.{or-false}
+use Rattle.std.proofs.lemmas.Bool.{cases_eq, lt-ltb}
 use Rattle.naming.specs.Words.{Elem, Once, flat, low}
 use Rattle.naming.specs.Names.{Treelike}
 use Rattle.naming.specs.Built.{Base, sub_at, kids_from, kids_all, kids_of, hi_at, list_at, shape_of, Ready, Built}
-
-or_false : (b : Bool) → (b || false) ≡ b
-or_false true = refl
-or_false false = refl
-
-flat_same : {X : Type 0} (L M : ℕ → List X) (cs : List ℕ) → ((c : ℕ) → Elem c cs → L c ≡ M c) → flat L cs ≡ flat M cs
-flat_same L M [] h = refl
-flat_same L M (c ∷ cs) h = ap₂ ◌++◌ (h c (inl refl)) (flat_same L M cs (λ d m. h d (inr m)))
 
 low_same : (n : ℕ) (h g : ℕ → ℕ) (cs : List ℕ) → ((c : ℕ) → Elem c cs → h c ≡ g c) → low n h cs ≡ low n g cs
 low_same n h g [] e = refl
@@ -22,48 +17,22 @@ module _ (parent : ℕ → ℕ) where
   pub kids_in : (m k p c : ℕ) → Elem c (kids_from parent m k p) → (k ≤ c) × (c < k + m) × (parent c ≡ p)
   unfolding kids_from
   kids_in zero k p c e = absurd e
-  kids_in (suc m) k p c e = pick (cases_Bool (eqb (parent k) p)) (λ q. let r = kids_in m (suc k) p c q in (omega (arith, r.0), omega (arith, r.1), r.2))
-    where
-      front : parent k ≡ p → (c ≡ k) ⊎ Elem c (kids_from parent m (suc k) p) → (Elem c (kids_from parent m (suc k) p) → (k ≤ c) × (c < k + suc m) × (parent c ≡ p)) →
-          (k ≤ c) × (c < k + suc m) × (parent c ≡ p)
-      front f (inl q) next = (omega arith, omega arith, ap parent q ∙ f)
-      front f (inr q) next = next q
-
-      pick : (eqb (parent k) p ≡ true) ⊎ (eqb (parent k) p ≡ false) → (Elem c (kids_from parent m (suc k) p) → (k ≤ c) × (c < k + suc m) × (parent c ≡ p)) →
-          (k ≤ c) × (c < k + suc m) × (parent c ≡ p)
-      pick (inl t) next =
-          front (eqb-true (parent k) p t) (subst (λ l. Elem c l) (cond-true (eqb (parent k) p) (k ∷ kids_from parent m (suc k) p) (kids_from parent m (suc k) p) t) e) next
-      pick (inr t) next = next (subst (λ l. Elem c l) (cond-false (eqb (parent k) p) (k ∷ kids_from parent m (suc k) p) (kids_from parent m (suc k) p) t) e)
+  kids_in (suc m) k p c e = grind (arith, nat_tests, kids_in m (suc k) p c)
 
   pub in_kids : (m k p c : ℕ) → k ≤ c → c < k + m → parent c ≡ p → Elem c (kids_from parent m k p)
   unfolding kids_from
   in_kids zero k p c a b e = absurd (omega arith)
-  in_kids (suc m) k p c a b e = pick (cases_eq c k) (cases_Bool (eqb (parent k) p)) (in_kids m (suc k) p c)
-    where
-      pick : (c ≡ k) ⊎ (c ≡ k → ⊥) → (eqb (parent k) p ≡ true) ⊎ (eqb (parent k) p ≡ false) →
-          (suc k ≤ c → c < suc k + m → parent c ≡ p → Elem c (kids_from parent m (suc k) p)) → Elem c (kids_from parent (suc m) k p)
-      pick (inl q) t next =
-          subst (λ l. Elem c l) (sym (cond-true (eqb (parent k) p) (k ∷ kids_from parent m (suc k) p) (kids_from parent m (suc k) p) (eq-eqb (parent k) p (ap parent (sym q) ∙ e)))) (inl q)
-      pick (inr d) (inl t) next =
-          subst (λ l. Elem c l) (sym (cond-true (eqb (parent k) p) (k ∷ kids_from parent m (suc k) p) (kids_from parent m (suc k) p) t)) (inr (next (omega arith) (omega arith) e))
-      pick (inr d) (inr t) next =
-          subst (λ l. Elem c l) (sym (cond-false (eqb (parent k) p) (k ∷ kids_from parent m (suc k) p) (kids_from parent m (suc k) p) t)) (next (omega arith) (omega arith) e)
+  in_kids (suc m) k p c a b e = grind (arith, nat_tests, in_kids m (suc k) p c, cases_eq c k)
 
   pub kids_once : (m k p : ℕ) → Once (kids_from parent m k p)
   unfolding kids_from
   kids_once zero k p = tt
-  kids_once (suc m) k p = pick (cases_Bool (eqb (parent k) p)) (kids_once m (suc k) p)
-    where
-      pick : (eqb (parent k) p ≡ true) ⊎ (eqb (parent k) p ≡ false) → Once (kids_from parent m (suc k) p) → Once (kids_from parent (suc m) k p)
-      pick (inl t) r =
-          subst (λ l. Once l) (sym (cond-true (eqb (parent k) p) (k ∷ kids_from parent m (suc k) p) (kids_from parent m (suc k) p) t))
-          (λ e. let q = kids_in m (suc k) p k e in absurd (omega (arith, q.0)), r)
-      pick (inr t) r = subst (λ l. Once l) (sym (cond-false (eqb (parent k) p) (k ∷ kids_from parent m (suc k) p) (kids_from parent m (suc k) p) t)) r
+  kids_once (suc m) k p = grind (arith, nat_tests, kids_once m (suc k) p, kids_in m (suc k) p k)
 
   -- no number up to p is a child of p
   pub kids_skip : (m k p : ℕ) → (parent k ≡ p → ⊥) → kids_from parent (suc m) k p ≡ kids_from parent m (suc k) p
   unfolding kids_from
-  kids_skip m k p d = cond-false (eqb (parent k) p) (k ∷ kids_from parent m (suc k) p) (kids_from parent m (suc k) p) (ne_eqb (parent k) p d)
+  kids_skip m k p d = grind (arith, nat_tests)
 
 module _ (n : ℕ) (P : ℕ → ℕ) (up : (k : ℕ) → 0 < k → k < n → P k < k) where
   done' : (m p : ℕ) → m < n → m ≤ p → kids_from P (n - suc m) (suc m) p ≡ kids_all n P p
@@ -110,17 +79,11 @@ module _ {X : Type 0} (B : Base X) (ready : Ready B) where
   unfolding sub_at
   sub_fuel zero i t v a b l = absurd (omega arith)
   sub_fuel (suc m) zero t v a b l = absurd (omega arith)
-  sub_fuel (suc m) (suc i) t v a b l = pick (cases_eq v 0) (sub_fuel m i t (P v))
-    where
-      pick : (v ≡ 0) ⊎ (v ≡ 0 → ⊥) → (P v < m → P v < i → P v < B.size → sub_at P m t (P v) ≡ sub_at P i t (P v)) → sub_at P (suc m) t v ≡ sub_at P (suc i) t v
-      pick (inl e) next = ap (λ (w : ℕ). eqb w t || (ltb 0 w && sub_at P m t (P w))) e ∙ sym (ap (λ (w : ℕ). eqb w t || (ltb 0 w && sub_at P i t (P w))) e)
-      pick (inr d) next =
-          let u = ready.up v (omega arith) l in
-          ap (λ (w : Bool). eqb v t || (ltb 0 v && w)) (next (omega arith) (omega arith) (omega arith))
+  sub_fuel (suc m) (suc i) t v a b l = let u = ready.up v in grind (arith, nat_tests, sub_fuel m i t (P v))
 
   sub_zero : (t : ℕ) → sub_at P 1 t 0 ≡ eqb 0 t
   unfolding sub_at
-  sub_zero t = or_false (eqb 0 t)
+  sub_zero t = or-false (eqb 0 t)
 
   sub_more : (t v : ℕ) → 0 < v → v < B.size → sub_at P (suc v) t v ≡ (eqb v t || sub_at P (suc (P v)) t (P v))
   unfolding sub_at

@@ -32,7 +32,7 @@ upward : Upward found
 unfolding sub_at
 upward =
     record {
-      up = λ k z l. five (λ k. 0 < k → found.parent k < k) (λ h. absurd (omega arith)) (λ h. omega arith) (λ h. omega arith) (λ h. omega arith) (λ h. omega arith) k l z;
+      up = λ k z l. grind arith;
       once = five (λ k. Once (found.links k)) tt tt (λ m. m, tt) (λ m. m, tt) (λ m. m, tt);
       link = λ k x l m. five (λ k. Elem x (found.links k) → (x < 7) × (found.from x ≡ k) × (found.to x < k) × (sub_at found.parent (suc k) (found.to x) k ≡ true))
           (λ m. absurd m) (λ m. absurd m) (lone (Up 2) 2 (lit< tt, refl, lit< tt, refl) x) (lone (Up 3) 4 (lit< tt, refl, lit< tt, refl) x) (lone (Up 4) 6 (lit< tt, refl, lit< tt, refl) x) k l m;
@@ -98,21 +98,17 @@ numbered =
       step_below = λ k l. l;
       number_step = λ k l. refl;
       step_number = λ v l. refl;
-      is_link = λ k p l. five (λ k. tree_link k < 7) (lit< tt) (lit< tt) (lit< tt) (lit< tt) (lit< tt) k l;
-      joins = λ k p l. five (λ k. 0 < k → ((tail_of G (tree_link k) ≡ found.parent k) × (head_of G (tree_link k) ≡ k)) ⊎ ((tail_of G (tree_link k) ≡ k) × (head_of G (tree_link k) ≡ found.parent k)))
+      is_link = λ k p l. grind arith;
+      joins = λ k p l.
+          five (λ k. 0 < k → ((tail_of G (tree_link k) ≡ found.parent k) × (head_of G (tree_link k) ≡ k)) ⊎ ((tail_of G (tree_link k) ≡ k) × (head_of G (tree_link k) ≡ found.parent k)))
           (λ z. absurd (omega arith)) (λ _. inl (refl, refl)) (λ _. inl (refl, refl)) (λ _. inl (refl, refl)) (λ _. inl (refl, refl)) k l p;
-      apart = λ j k pj lj pk lk e.
-          five (λ j. 0 < j → tree_link j ≡ tree_link k → j ≡ k) (λ z. absurd (omega arith))
-          (λ _. five (λ k. 0 < k → tree_link 1 ≡ tree_link k → 1 ≡ k) (λ z. absurd (omega arith)) (λ _ _. refl) (λ _ e. absurd (omega arith)) (λ _ e. absurd (omega arith)) (λ _ e. absurd (omega arith)) k lk pk)
-          (λ _. five (λ k. 0 < k → tree_link 2 ≡ tree_link k → 2 ≡ k) (λ z. absurd (omega arith)) (λ _ e. absurd (omega arith)) (λ _ _. refl) (λ _ e. absurd (omega arith)) (λ _ e. absurd (omega arith)) k lk pk)
-          (λ _. five (λ k. 0 < k → tree_link 3 ≡ tree_link k → 3 ≡ k) (λ z. absurd (omega arith)) (λ _ e. absurd (omega arith)) (λ _ e. absurd (omega arith)) (λ _ _. refl) (λ _ e. absurd (omega arith)) k lk pk)
-          (λ _. five (λ k. 0 < k → tree_link 4 ≡ tree_link k → 4 ≡ k) (λ z. absurd (omega arith)) (λ _ e. absurd (omega arith)) (λ _ e. absurd (omega arith)) (λ _ e. absurd (omega arith)) (λ _ _. refl) k lk pk) j lj pj e;
+      apart = λ j k pj lj pk lk e. grind arith;
       upward = upward;
       drawn = drawn;
     }
 
 within : EndsBelow 5 G
-within = seven (λ k. (tail_of G k < 5) × (head_of G k < 5)) (lit< tt, lit< tt) (lit< tt, lit< tt) (lit< tt, lit< tt) (lit< tt, lit< tt) (lit< tt, lit< tt) (lit< tt, lit< tt) (lit< tt, lit< tt)
+within k l = grind arith
 
 pub cap_to_itself : CapToItself
 unfolding shareb reach reached rounds sweep relax list_at kids_from hi_at

@@ -24,7 +24,8 @@ module _ {X : Type 0} (S : Shape X) (law : ByMethod S) where
   abbrev ends : ℕ → X → Bool
   ends k x = eqb (S.dst x) k
 
-  join : (k : ℕ) (held : ℕ → List X) → k < S.size → ((c : ℕ) → Elem c (S.kids k) → Carries S c (held c)) → Carries S k (S.own k ++ flat held (S.kids k))
+  join :
+      (k : ℕ) (held : ℕ → List X) → k < S.size → ((c : ℕ) → Elem c (S.kids k) → Carries S c (held c)) → Carries S k (S.own k ++ flat held (S.kids k))
   join k held l each =
       filter-append (goes k) (S.own k) (flat held (S.kids k)) ∙
       ap (λ i. filter (goes k) (S.own k) ++ i) (keep_lists (goes k) held S.list (S.kids k) same) ∙

@@ -1,7 +1,8 @@
 -- Names tell classes: the tree of a search spans the closed plan, so its brackets tell classes, and names tell brackets.
 use Rattle.std.proofs.Common.{◌≡◌, ℕ, ◌<◌, ◌≤◌, Bool, true, false, ◌||◌, eqb, ◌≢◌, ◌⊎◌, ◌↔◌, List, [], ◌∷◌, length, sym, ap, ◌∙◌, subst, ap₂, inl, inr, arith}
+use Rattle.std.proofs.lemmas.Bool.Decides.{nat_tests}
 use mathlib.Core.Bool.{xor}
-use Rattle.std.proofs.lemmas.Bool.{cases_eq, cases_lt, cases_Bool, eq-eqb, ne_eqb}
+use Rattle.std.proofs.lemmas.Bool.{cases_eq, cases_lt, ne_eqb, false_from_ne_true}
 use Rattle.model.specs.Meaning.{Graph, tail_of, head_of}
 use Rattle.model.specs.Walks.{closed, Share, Sound}
 use Rattle.theory.specs.Cuts.{crosses}
@@ -16,7 +17,7 @@ use Rattle.naming.specs.Words.{Elem}
 use Rattle.naming.proofs.Parity.{is_of_tree?, tree_cross, brackets_tell}
 use Rattle.naming.proofs.Trees.{sub_self, sub_le}
 use Rattle.naming.proofs.Joined.{over_list}
-use Rattle.naming.proofs.Searched.{searched_stands}
+use Rattle.naming.proofs.Searched.{law}
 use Rattle.naming.specs.Classes.{Numbered, NameOf, NamesTellClasses, TreeLinksBracketed}
 use Rattle.naming.proofs.Crossing.{crossing_bracket, names_cross}
 
@@ -25,7 +26,7 @@ module _ (g : Graph) (sound : Sound g) (P : Searched) (number step link : ℕ �
   S = shape_of (base_of P)
 
   tree : Treelike S
-  tree = (searched_stands P N.upward 0).0.by_method.tree
+  tree = (law P N.upward).tree
 
   -- the tree over the steps
   abbrev up : ℕ → ℕ
@@ -42,11 +43,7 @@ module _ (g : Graph) (sound : Sound g) (P : Searched) (number step link : ℕ �
 
   -- a step other than the root has a number above 0, and back
   positive : (v : ℕ) → v < g.steps → v ≢ step 0 → 0 < number v
-  positive v l d = pick (cases_eq (number v) 0)
-    where
-      pick : (number v ≡ 0) ⊎ (number v ≡ 0 → ⊥) → 0 < number v
-      pick (inl e) = absurd (d (sym (N.step_number v l) ∙ ap step e))
-      pick (inr n) = omega arith
+  positive v l d = let s = N.step_number v l in grind (arith, cases_eq (number v) 0)
 
   not_root : (k : ℕ) → 0 < k → k < g.steps → step k ≢ step 0
   not_root k p l e = let q = sym (N.number_step k l) ∙ ap number e ∙ N.number_step 0 (omega arith) in omega arith
@@ -58,11 +55,10 @@ module _ (g : Graph) (sound : Sound g) (P : Searched) (number step link : ℕ �
   back v l d = N.number_step (P.parent (number v)) (let a = parent_below v l d in let b = N.number_below v l in omega arith)
 
   same_step : (v w : ℕ) → v < g.steps → w < g.steps → eqb (number v) (number w) ≡ eqb v w
-  same_step v w l m = pick (cases_eq v w)
-    where
-      pick : (v ≡ w) ⊎ (v ≡ w → ⊥) → eqb (number v) (number w) ≡ eqb v w
-      pick (inl e) = eq-eqb (number v) (number w) (ap number e) ∙ sym (eq-eqb v w e)
-      pick (inr d) = ne_eqb (number v) (number w) (λ e. d (sym (N.step_number v l) ∙ ap step e ∙ N.step_number w m)) ∙ sym (ne_eqb v w d)
+  same_step v w l m =
+      let a = N.step_number v l in
+      let b = N.step_number w m in
+      grind (arith, nat_tests)
 
   spans : Tree (closed g) g.steps (step 0) number up above sub
   spans =
@@ -75,7 +71,7 @@ module _ (g : Graph) (sound : Sound g) (P : Searched) (number step link : ℕ �
         apart = λ v w lv dv lw dw e. sym (N.step_number v lv) ∙ ap step (N.apart (number v) (number w) (positive v lv dv) (N.number_below v lv) (positive w lw dw) (N.number_below w lw) e) ∙ N.step_number w lw;
         sub_root = λ t l d. ap (S.sub (number t)) (N.number_step 0 (let b = sound.begins in omega arith)) ∙ tree.sub_zero (number t) ∙ ne_eqb 0 (number t) (λ e. let p = positive t l d in omega arith);
         sub_more = λ t v lt lv d. tree.sub_more (number t) (number v) (positive v lv d) (in_size v lv) ∙ ap₂ ◌||◌ (same_step v t lv lt) (ap (S.sub (number t)) (sym (back v lv d)));
-        sub_up = λ t v lt lv l. none t v lv l (cases_Bool (S.sub (number t) (number v)));
+        sub_up = λ t v lt lv l. none t v lv l;
       }
     where
       ends : (v : ℕ) → step (number v) ≡ v →
@@ -84,9 +80,8 @@ module _ (g : Graph) (sound : Sound g) (P : Searched) (number step link : ℕ �
       ends v e (inl q) = inl (q.0, q.1 ∙ e)
       ends v e (inr q) = inr (q.0 ∙ e, q.1)
 
-      none : (t v : ℕ) → v < g.steps → number v < number t → (S.sub (number t) (number v) ≡ true) ⊎ (S.sub (number t) (number v) ≡ false) → S.sub (number t) (number v) ≡ false
-      none t v l lt (inl e) = let le = sub_le S tree (number t) (number v) (in_size v l) e in absurd (omega arith)
-      none t v l lt (inr e) = e
+      none : (t v : ℕ) → v < g.steps → number v < number t → S.sub (number t) (number v) ≡ false
+      none t v l lt = false_from_ne_true (S.sub (number t) (number v)) (λ e. let le = sub_le S tree (number t) (number v) (in_size v l) e in omega arith)
 
   told : Told (closed g) g.steps (step 0) above sub
   told = brackets_tell g sound (step 0) number up above sub spans
@@ -102,7 +97,9 @@ module _ (g : Graph) (sound : Sound g) (P : Searched) (number step link : ℕ �
       o (step t.0, N.step_below t.0 l, not_root t.0 p l, ap link (N.number_step t.0 l) ∙ t.3)
 
   -- crossing the subtree of a step and of its number
-  alike : (k e : ℕ) → k < g.steps → crosses (closed g) (sub (step k)) e ≡ crossing P (λ e. number (tail_of (closed g) e)) (λ e. number (head_of (closed g) e)) k e
+  alike :
+      (k e : ℕ) → k < g.steps →
+      crosses (closed g) (sub (step k)) e ≡ crossing P (λ e. number (tail_of (closed g) e)) (λ e. number (head_of (closed g) e)) k e
   alike k e l = ap (λ (x : ℕ). xor (S.sub x (number (tail_of (closed g) e))) (S.sub x (number (head_of (closed g) e)))) (N.number_step k l)
 
   -- were the list of k empty, the tree link above k alone would cross the subtree of k
@@ -118,20 +115,27 @@ module _ (g : Graph) (sound : Sound g) (P : Searched) (number step link : ℕ �
           tree_cross (closed g) g.steps (step 0) number up above sub spans (step k) v (N.step_below k l) lv pv ∙
           ne_eqb v (step k) (λ e. d (ap link (ap number e ∙ N.number_step k l)))
 
-      at_other : length (S.list k) ≤ 0 → (e : ℕ) → e < length (closed g) → (OfTree g.steps (step 0) above e → ⊥) → crosses (closed g) (sub (step k)) e ≡ false
-      at_other h e le o = pick (cases_Bool (crosses (closed g) (sub (step k)) e))
+      at_other :
+          length (S.list k) ≤ 0 → (e : ℕ) → e < length (closed g) → (OfTree g.steps (step 0) above e → ⊥) →
+          crosses (closed g) (sub (step k)) e ≡ false
+      at_other h e le o = false_from_ne_true (crosses (closed g) (sub (step k)) e) none
         where
-          pick : (crosses (closed g) (sub (step k)) e ≡ true) ⊎ (crosses (closed g) (sub (step k)) e ≡ false) → crosses (closed g) (sub (step k)) e ≡ false
-          pick (inr t) = t
-          pick (inl t) =
+          none : crosses (closed g) (sub (step k)) e ≡ true → ⊥
+          none t =
               let ks : k < P.size = omega (arith, N.size) in
-              let b = crossing_bracket P N.upward (λ e. number (tail_of (closed g) e)) (λ e. number (head_of (closed g) e)) link N.drawn k e ks (omega (arith, N.many)) (outside_back e o) (sym (alike k e l) ∙ t) in
-              absurd (empty e (S.list k) h (over_list S (searched_stands P N.upward 0).0.by_method k e ks b.0))
+              let b =
+              crossing_bracket P N.upward (λ e. number (tail_of (closed g) e)) (λ e. number (head_of (closed g) e)) link N.drawn k e ks (omega (arith, N.many))
+              (outside_back e o) (sym (alike k e l) ∙ t) in
+              empty e (S.list k) h (over_list S (law P N.upward) k e ks b.0)
 
-      only : length (S.list k) ≤ 0 → (e : ℕ) → e < length (closed g) → e ≢ link k → sub (step k) (tail_of (closed g) e) ≡ sub (step k) (head_of (closed g) e)
+      only :
+          length (S.list k) ≤ 0 → (e : ℕ) → e < length (closed g) → e ≢ link k →
+          sub (step k) (tail_of (closed g) e) ≡ sub (step k) (head_of (closed g) e)
       only h e le d = pick (is_of_tree? g.steps (step 0) above e)
         where
-          pick : OfTree g.steps (step 0) above e ⊎ (OfTree g.steps (step 0) above e → ⊥) → sub (step k) (tail_of (closed g) e) ≡ sub (step k) (head_of (closed g) e)
+          pick :
+              OfTree g.steps (step 0) above e ⊎ (OfTree g.steps (step 0) above e → ⊥) →
+              sub (step k) (tail_of (closed g) e) ≡ sub (step k) (head_of (closed g) e)
           pick (inl (v, lv, pv, q)) =
               xor_same (sub (step k) (tail_of (closed g) e)) (sub (step k) (head_of (closed g) e))
               (subst (λ (x : ℕ). crosses (closed g) (sub (step k)) x ≡ false) q (at_tree h v lv pv (λ r. d (sym q ∙ r))))
@@ -162,7 +166,8 @@ module _ (g : Graph) (sound : Sound g) (P : Searched) (number step link : ℕ �
       λ n. moved.1 (t.1 (λ e le o. alike k e lk ∙ c.0 n e (omega (arith, N.many)) (outside_back e o) ∙ sym (alike j e lj))),
     )
       where
-        c : SameName S d k j ↔ ((e : ℕ) → e < P.many → Outer P link e → crossing P (λ e. number (tail_of (closed g) e)) (λ e. number (head_of (closed g) e)) k e ≡ crossing P (λ e. number (tail_of (closed g) e)) (λ e. number (head_of (closed g) e)) j e)
+        c :
+            SameName S d k j ↔ ((e : ℕ) → e < P.many → Outer P link e → crossing P (λ e. number (tail_of (closed g) e)) (λ e. number (head_of (closed g) e)) k e ≡ crossing P (λ e. number (tail_of (closed g) e)) (λ e. number (head_of (closed g) e)) j e)
         c = cross.inner k j (omega (arith, N.size)) (omega (arith, N.size))
 
         t : Share (closed g) (above (step k)) (above (step j)) ↔ SameBrackets (closed g) g.steps (step 0) above sub (step k) (step j)
@@ -181,73 +186,43 @@ module _ (g : Graph) (sound : Sound g) (P : Searched) (number step link : ℕ �
       λ n. subst (λ (x : ℕ). Share (closed g) (link x) b) (N.number_step k lk) (t.1 (λ e le oe. alike k e lk ∙ c.0 n e (omega (arith, N.many)) (outside_back e oe))),
     )
       where
-        c : ((top_of S d k ≡ b) × (length (S.list k) ≡ 1)) ↔ ((e : ℕ) → e < P.many → Outer P link e → crossing P (λ e. number (tail_of (closed g) e)) (λ e. number (head_of (closed g) e)) k e ≡ eqb e b)
+        c :
+            ((top_of S d k ≡ b) × (length (S.list k) ≡ 1)) ↔ ((e : ℕ) → e < P.many → Outer P link e → crossing P (λ e. number (tail_of (closed g) e)) (λ e. number (head_of (closed g) e)) k e ≡ eqb e b)
         c = cross.mixed k b (omega (arith, N.size)) (omega (arith, N.many)) o
 
         t : Share (closed g) (above (step k)) b ↔ LoneBracket (closed g) g.steps (step 0) above sub (step k) b
         t = told.mixed (step k) b (N.step_below k lk) (not_root k pk lk) lb (outside b o)
 
-    pair : (x y u v : ℕ) → x ≡ u → y ≡ v → ◌≡◌ {A = ℕ × ℕ} (x, y) (u, v)
-    pair x y u v e f i = (e i, f i)
-
-    fst : (p q : ℕ × ℕ) → p ≡ q → p.0 ≡ q.0
-    fst p q e = ap (λ (x : ℕ × ℕ). x.0) e
-
-    snd : (p q : ℕ × ℕ) → p ≡ q → p.1 ≡ q.1
-    snd p q e = ap (λ (x : ℕ × ℕ). x.1) e
-
-    Shares : ℕ → ℕ → Type 0
-    Shares a b = Share (closed g) a b ↔ (name a ≡ name b)
-
     tree_tree : (k j : ℕ) → 0 < k → k < g.steps → 0 < j → j < g.steps → Share (closed g) (link k) (link j) ↔ (name (link k) ≡ name (link j))
-    tree_tree k j pk lk pj lj = pick (cases_eq k j)
-      where
-        nk : name (link k) ≡ (top_of S d k, length (S.list k))
-        nk = names.tree k pk (omega (arith, N.size))
-
-        nj : name (link j) ≡ (top_of S d j, length (S.list j))
-        nj = names.tree j pj (omega (arith, N.size))
-
-        pick : (k ≡ j) ⊎ (k ≡ j → ⊥) → Share (closed g) (link k) (link j) ↔ (name (link k) ≡ name (link j))
-        pick (inl e) = (λ s. ap (λ (x : ℕ). name (link x)) e, λ n. share_refl (closed g) (link k) (link j) (ap link e))
-        pick (inr n) =
-            let i = inner k j pk lk pj lj n in (
-              λ s. let h = i.0 s in nk ∙ pair (top k) (len k) (top j) (len j) h.0 h.1 ∙ sym nj,
-              λ e. let q = sym nk ∙ e ∙ nj in i.1 (fst (top k, len k) (top j, len j) q, snd (top k, len k) (top j, len j) q),
-            )
+    tree_tree k j pk lk pj lj =
+        let nk = names.tree k pk (omega (arith, N.size)) in
+        let nj = names.tree j pj (omega (arith, N.size)) in
+        let same = share_refl (closed g) (link k) (link j) in
+        let apart = inner k j pk lk pj lj in
+        grind (arith, cases_eq k j)
 
     tree_other : (k b : ℕ) → 0 < k → k < g.steps → b < length (closed g) → Outer P link b → Share (closed g) (link k) b ↔ (name (link k) ≡ name b)
-    tree_other k b pk lk lb o = (
-      λ s. let h = i.0 s in nk ∙ pair (top k) (len k) b 1 h.0 h.1 ∙ sym nb,
-      λ e. let q = sym nk ∙ e ∙ nb in i.1 (fst (top k, len k) (b, 1) q, snd (top k, len k) (b, 1) q),
-    )
-      where
-        i : Share (closed g) (link k) b ↔ ((top_of S d k ≡ b) × (length (S.list k) ≡ 1))
-        i = mixed k b pk lk lb o
+    tree_other k b pk lk lb o =
+        let i = mixed k b pk lk lb o in
+        let nk = names.tree k pk (omega (arith, N.size)) in
+        let nb = names.other b (omega (arith, N.many)) o in
+        grind arith
 
-        nk : name (link k) ≡ (top_of S d k, length (S.list k))
-        nk = names.tree k pk (omega (arith, N.size))
-
-        nb : name b ≡ (b, 1)
-        nb = names.other b (omega (arith, N.many)) o
-
-    other_other : (a b : ℕ) → a < length (closed g) → b < length (closed g) → Outer P link a → Outer P link b → Share (closed g) a b ↔ (name a ≡ name b)
-    other_other a b la lb oa ob = pick (cases_eq a b)
-      where
-        na : name a ≡ (a, 1)
-        na = names.other a (omega (arith, N.many)) oa
-
-        nb : name b ≡ (b, 1)
-        nb = names.other b (omega (arith, N.many)) ob
-
-        pick : (a ≡ b) ⊎ (a ≡ b → ⊥) → Share (closed g) a b ↔ (name a ≡ name b)
-        pick (inl e) = (λ s. ap name e, λ n. share_refl (closed g) a b e)
-        pick (inr n) = (λ s. absurd (told.outer a b la lb n (outside a oa) (outside b ob) s), λ e. absurd (n (fst (a, 1) (b, 1) (sym na ∙ e ∙ nb))))
+    other_other :
+        (a b : ℕ) → a < length (closed g) → b < length (closed g) → Outer P link a → Outer P link b → Share (closed g) a b ↔ (name a ≡ name b)
+    other_other a b la lb oa ob =
+        let na = names.other a (omega (arith, N.many)) oa in
+        let nb = names.other b (omega (arith, N.many)) ob in
+        let same = share_refl (closed g) a b in
+        let apart : a ≢ b → Share (closed g) a b → ⊥ = λ n. told.outer a b la lb n (outside a oa) (outside b ob) in
+        grind (arith, cases_eq a b)
 
     abbrev InTree : ℕ → Type 0
     InTree e = OfTree P.size 0 link e
 
-    tell : (a b : ℕ) → a < length (closed g) → b < length (closed g) → InTree a ⊎ (InTree a → ⊥) → InTree b ⊎ (InTree b → ⊥) → Share (closed g) a b ↔ (name a ≡ name b)
+    tell :
+        (a b : ℕ) → a < length (closed g) → b < length (closed g) → InTree a ⊎ (InTree a → ⊥) → InTree b ⊎ (InTree b → ⊥) →
+        Share (closed g) a b ↔ (name a ≡ name b)
     tell a b la lb (inl (k, lk, pk, e)) (inl (j, lj, pj, f)) =
         subst (λ (x : ℕ). Share (closed g) x b ↔ (name x ≡ name b)) e (subst (λ (x : ℕ). Share (closed g) (link k) x ↔ (name (link k) ≡ name x)) f
         (tree_tree k j (omega arith) (omega (arith, N.size)) (omega arith) (omega (arith, N.size))))

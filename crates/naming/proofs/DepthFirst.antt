@@ -1,7 +1,7 @@
 -- The back links of a depth-first tree go up to an ancestor, and all links outside the tree are back links or have equal ends.
 use Rattle.std.proofs.Common.{◌≡◌, ℕ, zero, suc, ◌<◌, ◌≤◌, Bool, true, false, not, ◌&&◌, eqb, ltb, ◌≢◌, ◌⊎◌, List, [], ◌∷◌, length, Decides, sym, refl, ap, ◌∙◌, subst, inl, inr, arith}
-use Rattle.std.proofs.lemmas.Bool.{cases_eq, cases_Bool, both_ways, and_parts, and_from, not-true, not_from_false, or_cases, eqb-true, eqb-false, eq-eqb, ne_eqb, ltb-true, cond-true, cond-false}
-use Rattle.std.proofs.lemmas.Bool.Decides.{Decides-below_or, Decides-and, Decides-ltb, Decides-eqb}
+use Rattle.std.proofs.lemmas.Bool.{cases_eq, cases_Bool, both_ways, and_parts, and_from, not-true, not_from_false, eqb-true, eqb-false, eq-eqb, ne_eqb, cond-true, cond-false, false_from_ne_true}
+use Rattle.std.proofs.lemmas.Bool.Decides.{Decides-below_or, Decides-and, Decides-ltb, Decides-eqb, nat_tests}
 use Rattle.model.specs.Meaning.{tail_of, head_of, EndsBelow}
 use Rattle.model.specs.Walks.{Links, closed}
 use Rattle.naming.specs.Words.{Elem, Once}
@@ -20,15 +20,10 @@ tree_told link n e =
 below_le : (parent : ℕ → ℕ) (n : ℕ) → ((k : ℕ) → 0 < k → k < n → parent k < k) → (m t v : ℕ) → v < n → sub_at parent m t v ≡ true → t ≤ v
 unfolding sub_at
 below_le parent n up zero t v l e = absurd (both_ways false refl e)
-below_le parent n up (suc m) t v l e = pick (or_cases (eqb v t) (ltb 0 v && sub_at parent m t (parent v)) e) (below_le parent n up m t (parent v))
-  where
-    pick : (eqb v t ≡ true) ⊎ ((ltb 0 v && sub_at parent m t (parent v)) ≡ true) → (parent v < n → sub_at parent m t (parent v) ≡ true → t ≤ parent v) → t ≤ v
-    pick (inl q) next = let f = eqb-true v t q in omega arith
-    pick (inr q) next =
-        let r = and_parts (ltb 0 v) (sub_at parent m t (parent v)) q in
-        let u = up v (ltb-true 0 v r.0) l in
-        let le = next (omega arith) r.1 in
-        omega arith
+below_le parent n up (suc m) t v l e =
+    let next = below_le parent n up m t (parent v) in
+    let u = up v in
+    grind (arith, nat_tests)
 
 module _ (G : Links) (n : ℕ) (number link : ℕ → ℕ) where
   abbrev L : ℕ → ℕ → List ℕ
@@ -50,33 +45,19 @@ module _ (G : Links) (n : ℕ) (number link : ℕ → ℕ) where
   links_no m k t = cond-false (starts m k) (m ∷ L m k) (L m k) t
 
   pub links_in : (m k x : ℕ) → Elem x (L m k) → (x < m) × (starts x k ≡ true)
-  links_in zero k x e = absurd (subst (λ l. Elem x l) (links_none k) e)
-  links_in (suc m) k x e = pick (cases_Bool (starts m k)) (links_in m k x)
-    where
-      front : starts m k ≡ true → (x ≡ m) ⊎ Elem x (L m k) → (Elem x (L m k) → (x < m) × (starts x k ≡ true)) → (x < suc m) × (starts x k ≡ true)
-      front t (inl q) next = (omega arith, ap (λ (i : ℕ). starts i k) q ∙ t)
-      front t (inr q) next = let r = next q in (omega (arith, r.0), r.1)
-
-      pick : (starts m k ≡ true) ⊎ (starts m k ≡ false) → (Elem x (L m k) → (x < m) × (starts x k ≡ true)) → (x < suc m) × (starts x k ≡ true)
-      pick (inl t) next = front t (subst (λ l. Elem x l) (links_yes m k t) e) next
-      pick (inr t) next = let r = next (subst (λ l. Elem x l) (links_no m k t) e) in (omega (arith, r.0), r.1)
+  unfolding back_links
+  links_in zero k x e = absurd e
+  links_in (suc m) k x e = grind (arith, links_in m k x, cases_Bool (starts m k))
 
   pub in_links : (m k x : ℕ) → x < m → starts x k ≡ true → Elem x (L m k)
+  unfolding back_links
   in_links zero k x l t = absurd (omega arith)
-  in_links (suc m) k x l t = pick (cases_eq x m) (cases_Bool (starts m k)) (in_links m k x)
-    where
-      pick : (x ≡ m) ⊎ (x ≡ m → ⊥) → (starts m k ≡ true) ⊎ (starts m k ≡ false) → (x < m → starts x k ≡ true → Elem x (L m k)) → Elem x (L (suc m) k)
-      pick (inl e) q next = subst (λ l. Elem x l) (sym (links_yes m k (ap (λ (i : ℕ). starts i k) (sym e) ∙ t))) (inl e)
-      pick (inr d) (inl q) next = subst (λ l. Elem x l) (sym (links_yes m k q)) (inr (next (omega arith) t))
-      pick (inr d) (inr q) next = subst (λ l. Elem x l) (sym (links_no m k q)) (next (omega arith) t)
+  in_links (suc m) k x l t = grind (arith, in_links m k x, cases_eq x m, cases_Bool (starts m k))
 
   pub links_once : (m k : ℕ) → Once (L m k)
-  links_once zero k = subst (λ l. Once l) (sym (links_none k)) tt
-  links_once (suc m) k = pick (cases_Bool (starts m k)) (links_once m k)
-    where
-      pick : (starts m k ≡ true) ⊎ (starts m k ≡ false) → Once (L m k) → Once (L (suc m) k)
-      pick (inl t) r = subst (λ l. Once l) (sym (links_yes m k t)) (λ e. let q = links_in m k m e in absurd (omega (arith, q.0)), r)
-      pick (inr t) r = subst (λ l. Once l) (sym (links_no m k t)) r
+  unfolding back_links
+  links_once zero k = tt
+  links_once (suc m) k = grind (arith, links_once m k, links_in m k m, cases_Bool (starts m k))
 
 module _ (G : Links) (n : ℕ) (within : EndsBelow n G) (number step parent link : ℕ → ℕ) (T : DepthFirst G n number step parent link) where
   abbrev P : Searched
@@ -92,11 +73,10 @@ module _ (G : Links) (n : ℕ) (within : EndsBelow n G) (number step parent link
   in_tree e k l p q = (tree_told link n e).1 (k, l, (omega arith, q))
 
   outer_test : (e : ℕ) → Outer P link e → of_tree link n e ≡ false
-  outer_test e o = pick (cases_Bool (of_tree link n e))
-    where
-      pick : (of_tree link n e ≡ true) ⊎ (of_tree link n e ≡ false) → of_tree link n e ≡ false
-      pick (inl t) = let r = (tree_told link n e).0 t in absurd (o (r.0, r.1, (λ z. let p = r.2.0 in omega (arith, p)), r.2.1))
-      pick (inr t) = t
+  outer_test e o =
+      false_from_ne_true (of_tree link n e) (λ t.
+      let r = (tree_told link n e).0 t in
+      o (r.0, r.1, (λ z. let p = r.2.0 in omega (arith, p)), r.2.1))
 
   -- what a back link is
   pub back_parts : (e : ℕ) → is_back G n number link e ≡ true → (of_tree link n e ≡ false) × (tail e ≢ head e)
@@ -155,7 +135,9 @@ module _ (G : Links) (n : ℕ) (within : EndsBelow n G) (number step parent link
           let s = and_parts (is_back G n number link x) (eqb (P.from x) k) i.1 in
           both_ways (of_tree link n x) (back_parts x s.0).0 (in_tree x t.0 t.1 t.2 t.3)
 
-      ends : (x : ℕ) → (P.from x ≡ tail x) ⊎ (P.from x ≡ tail x → ⊥) → ((tail x ≡ P.from x) × (head x ≡ P.to x)) ⊎ ((tail x ≡ P.to x) × (head x ≡ P.from x))
+      ends :
+          (x : ℕ) → (P.from x ≡ tail x) ⊎ (P.from x ≡ tail x → ⊥) → ((tail x ≡ P.from x) × (head x ≡ P.to x)) ⊎
+          ((tail x ≡ P.to x) × (head x ≡ P.from x))
       ends x (inl e) = inl (sym e, omega arith)
       ends x (inr d) = inr (omega arith, omega arith)
 
@@ -163,7 +145,9 @@ module _ (G : Links) (n : ℕ) (within : EndsBelow n G) (number step parent link
   above : (k : ℕ) → 0 < k → k < n → P.from (link k) ≡ k
   above k p l = pick (T.joins k p l)
     where
-      pick : ((tail_of G (link k) ≡ step (parent k)) × (head_of G (link k) ≡ step k)) ⊎ ((tail_of G (link k) ≡ step k) × (head_of G (link k) ≡ step (parent k))) → P.from (link k) ≡ k
+      pick :
+          ((tail_of G (link k) ≡ step (parent k)) × (head_of G (link k) ≡ step k)) ⊎
+          ((tail_of G (link k) ≡ step k) × (head_of G (link k) ≡ step (parent k))) → P.from (link k) ≡ k
       pick (inl e) =
           let u = T.up k p l in
           let a = ap number e.0 ∙ T.number_step (parent k) (omega arith) in

@@ -1,7 +1,9 @@
 -- The items that end at a number, counted.
-use Rattle.std.proofs.Common.{◌≡◌, ℕ, zero, suc, ◌+◌, ◌-◌, ◌<◌, ◌≤◌, Bool, true, false, cond, ◌&&◌, eqb, ◌≢◌, ◌⊎◌, List, [], ◌∷◌, ◌++◌, length, filter, sym, refl, ap, ◌∙◌, subst, ap₂, inl, inr, arith, length-append}
+use Rattle.std.proofs.Common.{◌≡◌, ℕ, zero, suc, ◌+◌, ◌-◌, ◌<◌, ◌≤◌, Bool, true, false, cond, ◌&&◌, eqb, ◌≢◌, List, [], ◌∷◌, ◌++◌, length, filter, sym, refl, ap, ◌∙◌, subst, ap₂, inl, inr, arith, length-append}
+use Rattle.std.proofs.lemmas.Bool.Decides.{nat_tests}
+use Rattle.naming.proofs.Lists.{flat_same}
 use Rattle.std.proofs.lemmas.List.Elements.{filter-append}
-use Rattle.std.proofs.lemmas.Bool.{cases_lt, cases_Bool, and_left, and_right, eq-eqb, ne_eqb, cond-true, cond-false}
+use Rattle.std.proofs.lemmas.Bool.{cases_lt, cases_Bool, and_right, eq-eqb, ne_eqb, and_from}
 use Rattle.model.specs.Meaning.{EndsBelow}
 use Rattle.model.specs.Walks.{Links}
 use Rattle.naming.specs.Words.{Elem, Once, flat}
@@ -28,25 +30,19 @@ tally_append : {X : Type 0} (p : X → Bool) (xs ys : List X) → tally p (xs ++
 tally_append p xs ys = ap length (filter-append p xs ys) ∙ length-append (filter p xs) (filter p ys)
 
 tally_cons : {X : Type 0} (p : X → Bool) (x : X) (xs : List X) → tally p (x ∷ xs) ≡ cond (p x) 1 0 + tally p xs
-tally_cons p x xs = pick (cases_Bool (p x))
-  where
-    pick : (p x ≡ true) ⊎ (p x ≡ false) → tally p (x ∷ xs) ≡ cond (p x) 1 0 + tally p xs
-    pick (inl e) = rw e (omega arith)
-    pick (inr e) = rw e (omega arith)
-
-flat_alike : {X : Type 0} (L M : ℕ → List X) (js : List ℕ) → ((j : ℕ) → Elem j js → M j ≡ L j) → flat M js ≡ flat L js
-flat_alike L M [] h = refl
-flat_alike L M (j ∷ js) h = ap₂ ◌++◌ (h j (inl refl)) (flat_alike L M js (λ i m. h i (inr m)))
+tally_cons p x xs = grind (arith, cases_Bool (p x))
 
 -- one of the lists has one item more
-flat_one : {X : Type 0} (p : X → Bool) (L M : ℕ → List X) (x : X) (f : ℕ) (js : List ℕ) → Once js → Elem f js → M f ≡ x ∷ L f → ((j : ℕ) → j ≢ f → M j ≡ L j) →
+flat_one :
+    {X : Type 0} (p : X → Bool) (L M : ℕ → List X) (x : X) (f : ℕ) (js : List ℕ) → Once js → Elem f js → M f ≡ x ∷ L f →
+    ((j : ℕ) → j ≢ f → M j ≡ L j) →
     tally p (flat M js) ≡ cond (p x) 1 0 + tally p (flat L js)
 flat_one p L M x f [] o m e same = absurd m
 flat_one p L M x f (j ∷ js) o (inl q) e same =
     let a = tally_append p (M j) (flat M js) in
     let b = tally_append p (L j) (flat L js) in
     let c : tally p (M j) ≡ cond (p x) 1 0 + tally p (L j) = ap (tally p) (ap M (sym q) ∙ e ∙ ap (λ (i : ℕ). x ∷ L i) q) ∙ tally_cons p x (L j) in
-    let d = ap (tally p) (flat_alike L M js (λ i m. same i (λ r. o.0 (subst (λ (t : ℕ). Elem t js) (r ∙ q) m)))) in
+    let d = ap (tally p) (flat_same M L js (λ i m. same i (λ r. o.0 (subst (λ (t : ℕ). Elem t js) (r ∙ q) m)))) in
     omega arith
 flat_one p L M x f (j ∷ js) o (inr m) e same =
     let a = tally_append p (M j) (flat M js) in
@@ -67,23 +63,11 @@ module _ (P : Searched) (good : Upward P) (v : ℕ) where
 
   -- the own items of one number: its cap and its back links
   own_ends : (j : ℕ) → j < P.size → tally ends (B.own j) ≡ cond (capped P j && eqb (low_second P j) v) 1 0 + tally there (P.links j)
-  own_ends j l = pick (cases_Bool (capped P j))
-    where
-      links : filter ends (P.links j) ≡ filter there (P.links j)
-      links = keep_alike ends there (P.links j) (λ x m. ap (λ (i : ℕ). eqb i v) (link_dst P good x (good.link j x l m).0))
-
-      pick : (capped P j ≡ true) ⊎ (capped P j ≡ false) → tally ends (B.own j) ≡ cond (capped P j && eqb (low_second P j) v) 1 0 + tally there (P.links j)
-      pick (inl t) =
-          let a = ap (tally ends) (cond-true (capped P j) ((P.many + j) ∷ P.links j) (P.links j) t) ∙ tally_cons ends (P.many + j) (P.links j) in
-          let b : ◌≡◌ {A = ℕ} (cond (ends (P.many + j)) 1 0) (cond (eqb (low_second P j) v) 1 0) = ap (λ (i : ℕ). cond (eqb i v) 1 0) (cap_dst P good (P.many + j) j refl) in
-          let c = ap length links in
-          let d : ◌≡◌ {A = ℕ} (cond (capped P j && eqb (low_second P j) v) 1 0) (cond (eqb (low_second P j) v) 1 0) = ap (λ (s : Bool). cond (s && eqb (low_second P j) v) 1 0) t in
-          omega arith
-      pick (inr t) =
-          let a = ap (tally ends) (cond-false (capped P j) ((P.many + j) ∷ P.links j) (P.links j) t) in
-          let c = ap length links in
-          let d : ◌≡◌ {A = ℕ} (cond (capped P j && eqb (low_second P j) v) 1 0) 0 = ap (λ (s : Bool). cond (s && eqb (low_second P j) v) 1 0) t in
-          omega arith
+  own_ends j l =
+      let a = tally_cons ends (P.many + j) (P.links j) in
+      let b = ap (λ (i : ℕ). eqb i v) (cap_dst P good (P.many + j) j refl) in
+      let c = ap length (keep_alike ends there (P.links j) (λ x m. ap (λ (i : ℕ). eqb i v) (link_dst P good x (good.link j x l m).0))) in
+      grind (arith, cases_Bool (capped P j))
 
   -- those of m numbers from k on
   all_ends : (m k : ℕ) → k + m ≤ P.size → tally ends (flat B.own (numbers m k)) ≡ cap_ends P m k v + tally there (flat P.links (numbers m k))
@@ -112,55 +96,48 @@ module _ (G : Links) (n : ℕ) (within : EndsBelow n G) (number step parent link
   abbrev starts : ℕ → ℕ → Bool
   starts e k = is_back G n number link e && eqb (Q.from e) k
 
+  abbrev lists : ℕ → ℕ → List ℕ
+  lists = back_links G n number link
+
+  -- a back link goes up
+  up : (m : ℕ) → m < length G → is_back G n number link m ≡ true → (Q.to m < Q.from m) × (Q.from m < n)
+  up m l t = let u = goes_up G n within number step parent link T m l (back_parts G n within number step parent link T m t).1 in (u.0, u.1)
+
+  -- one that starts behind v is on one list more, any other link is on none of them
+  added : (m : ℕ) → is_back G n number link m ≡ true → v < Q.from m → Q.from m < n →
+      tally to_v (flat (lists (suc m)) behind) ≡ cond (to_v m) 1 0 + tally to_v (flat (lists m) behind)
+  added m t h l =
+      flat_one to_v (lists m) (lists (suc m)) m (Q.from m) behind (numbers_once (n - suc v) (suc v))
+      (in_numbers (n - suc v) (suc v) (Q.from m) (omega arith) (omega arith))
+      (links_yes G n number link m (Q.from m) (and_from (is_back G n number link m) (eqb (Q.from m) (Q.from m)) t (eq-eqb (Q.from m) (Q.from m) refl)))
+      (λ j d. links_no G n number link m j (and_right (is_back G n number link m) (eqb (Q.from m) j) (ne_eqb (Q.from m) j (λ q. d (sym q)))))
+
+  kept : (m : ℕ) → (is_back G n number link m ≡ true → Q.from m ≤ v) → tally to_v (flat (lists (suc m)) behind) ≡ tally to_v (flat (lists m) behind)
+  kept m h = ap (tally to_v) (flat_same (lists (suc m)) (lists m) behind (λ j e. links_no G n number link m j (no j (numbers_in (n - suc v) (suc v) j e).0)))
+    where
+      no : (j : ℕ) → suc v ≤ j → starts m j ≡ false
+      no j l = grind (arith, nat_tests, cases_Bool (is_back G n number link m))
+
   -- the back links among the first m links that end at v, all from behind v
-  back_counted : (m : ℕ) → m ≤ length G → tally to_v (flat (back_links G n number link m) behind) ≡ back_ends G n number link m v
+  back_counted : (m : ℕ) → m ≤ length G → tally to_v (flat (lists m) behind) ≡ back_ends G n number link m v
   back_counted zero l = none behind
     where
-      none : (js : List ℕ) → tally to_v (flat (back_links G n number link zero) js) ≡ 0
+      none : (js : List ℕ) → tally to_v (flat (lists zero) js) ≡ 0
       none [] = refl
       none (j ∷ js) =
-          let a = tally_append to_v (back_links G n number link zero j) (flat (back_links G n number link zero) js) in
-          let b : tally to_v (back_links G n number link zero j) ≡ 0 = ap (tally to_v) (links_none G n number link j) in
+          let a = tally_append to_v (lists zero j) (flat (lists zero) js) in
+          let b : tally to_v (lists zero j) ≡ 0 = ap (tally to_v) (links_none G n number link j) in
           let c = none js in
           omega arith
-  back_counted (suc m) l = pick (cases_Bool (is_back G n number link m)) (back_counted m (omega arith))
-    where
-      same : (j : ℕ) → starts m j ≡ false → back_links G n number link (suc m) j ≡ back_links G n number link m j
-      same j t = links_no G n number link m j t
+  back_counted (suc m) l =
+      let rest = back_counted m (omega arith) in
+      let u = up m (omega arith) in
+      let more = added m in
+      let same = kept m in
+      grind (arith, nat_tests, cases_Bool (is_back G n number link m), cases_lt v (Q.from m))
 
-      yes : is_back G n number link m ≡ true → (Q.from m ≤ v) ⊎ (v < Q.from m) →
-          tally to_v (flat (back_links G n number link m) behind) ≡ back_ends G n number link m v → tally to_v (flat (back_links G n number link (suc m)) behind) ≡ back_ends G n number link (suc m) v
-      yes t (inl h) rest =
-          let u = goes_up G n within number step parent link T m (omega arith) (back_parts G n within number step parent link T m t).1 in
-          let a = ap (tally to_v) (flat_alike (back_links G n number link m) (back_links G n number link (suc m)) behind
-          (λ j e. same j (and_right (is_back G n number link m) (eqb (Q.from m) j) (ne_eqb (Q.from m) j (λ q. let r = numbers_in (n - suc v) (suc v) j e in absurd (omega (arith, r.0))))))) in
-          let b : ◌≡◌ {A = ℕ} (cond (is_back G n number link m && to_v m) 1 0) 0 = ap (λ (s : Bool). cond s 1 0) (and_right (is_back G n number link m) (to_v m) (ne_eqb (Q.to m) v (λ q. absurd (omega (arith, u.0))))) in
-          omega arith
-      yes t (inr h) rest =
-          let u = goes_up G n within number step parent link T m (omega arith) (back_parts G n within number step parent link T m t).1 in
-          let a = flat_one to_v (back_links G n number link m) (back_links G n number link (suc m)) m (Q.from m) behind (numbers_once (n - suc v) (suc v))
-          (in_numbers (n - suc v) (suc v) (Q.from m) (omega arith) (omega (arith, u.1)))
-          (links_yes G n number link m (Q.from m) (ap (λ (s : Bool). s && eqb (Q.from m) (Q.from m)) t ∙ eq-eqb (Q.from m) (Q.from m) refl))
-          (λ j d. same j (and_right (is_back G n number link m) (eqb (Q.from m) j) (ne_eqb (Q.from m) j (λ q. d (sym q))))) in
-          let b : ◌≡◌ {A = ℕ} (cond (is_back G n number link m && to_v m) 1 0) (cond (to_v m) 1 0) = ap (λ (s : Bool). cond (s && to_v m) 1 0) t in
-          omega arith
-
-      order : (a b : ℕ) → (a ≤ b) ⊎ (b < a)
-      order a b = swap (cases_lt b a)
-        where
-          swap : (b < a) ⊎ (a ≤ b) → (a ≤ b) ⊎ (b < a)
-          swap (inl h) = inr h
-          swap (inr h) = inl h
-
-      pick : (is_back G n number link m ≡ true) ⊎ (is_back G n number link m ≡ false) →
-          tally to_v (flat (back_links G n number link m) behind) ≡ back_ends G n number link m v → tally to_v (flat (back_links G n number link (suc m)) behind) ≡ back_ends G n number link (suc m) v
-      pick (inl t) rest = yes t (order (Q.from m) v) rest
-      pick (inr t) rest =
-          let a = ap (tally to_v) (flat_alike (back_links G n number link m) (back_links G n number link (suc m)) behind (λ j e. same j (and_left (is_back G n number link m) (eqb (Q.from m) j) t))) in
-          let b : ◌≡◌ {A = ℕ} (cond (is_back G n number link m && to_v m) 1 0) 0 = ap (λ (s : Bool). cond s 1 0) (and_left (is_back G n number link m) (to_v m) t) in
-          omega arith
-
-  pub counted : length (ending_at (shape_of (base_of Q)) v (later (base_of Q) (suc v))) ≡ back_ends G n number link (length G) v + cap_ends Q (n - suc v) (suc v) v
+  pub counted :
+      length (ending_at (shape_of (base_of Q)) v (later (base_of Q) (suc v))) ≡ back_ends G n number link (length G) v + cap_ends Q (n - suc v) (suc v) v
   counted =
       let a = all_ends Q (upward G n within number step parent link T) v (n - suc v) (suc v) (omega arith) in
       let b = back_counted (length G) (omega arith) in

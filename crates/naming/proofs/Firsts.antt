@@ -1,6 +1,8 @@
 -- One link stands for each name.
-use Rattle.std.proofs.Common.{◌≡◌, ℕ, zero, suc, ◌<◌, ◌≤◌, false, cond, ◌&&◌, eqb, ltb, ◌≢◌, ◌⊎◌, ◌↔◌, List, [], ◌∷◌, length, get_or, Some, None, Option, sym, refl, ap, ◌∙◌, subst, inl, inr, arith}
-use Rattle.std.proofs.lemmas.Bool.{cases_eq, cases_lt, and_from, and_left, and_right, lt-ltb, le-ltb, eq-eqb, ne_eqb, cond-true, cond-false}
+use Rattle.std.proofs.Common.{◌≡◌, ℕ, zero, suc, ◌<◌, ◌≤◌, cond, ◌&&◌, eqb, ltb, ◌≢◌, ◌⊎◌, ◌↔◌, List, [], ◌∷◌, length, get_or, Some, None, Option, sym, refl, ap, ◌∙◌, subst, inl, inr, arith}
+use Rattle.std.proofs.lemmas.Bool.Decides.{nat_tests}
+use Rattle.std.proofs.lemmas.Option.{none-some, some_pair_parts}
+use Rattle.std.proofs.lemmas.Bool.{cases_eq, cases_lt}
 use Rattle.model.specs.Meaning.{Graph, tail_of, head_of}
 use Rattle.model.specs.Walks.{closed, Share, Sound}
 use Rattle.naming.specs.Words.{Elem}
@@ -14,22 +16,13 @@ use Rattle.naming.specs.Firsts.{Done, Long, Firsts, Gets, FirstsTurn, FirstsStan
 use Rattle.naming.proofs.Lists.{keep_length}
 use Rattle.naming.proofs.Parity.{is_of_tree?}
 use Rattle.naming.proofs.Trees.{sub_chain}
-use Rattle.naming.proofs.Searched.{searched_stands}
+use Rattle.naming.proofs.Searched.{searched_stands, law}
 use Rattle.naming.proofs.Crossing.{outer_bracket}
 use Rattle.naming.proofs.Classes.{names_tell_classes, tree_links_bracketed}
 
 begins : (xs : List ℕ) → 1 ≤ length xs → (ys : List ℕ) × (xs ≡ get_or xs 0 0 ∷ ys)
 begins [] h = absurd (omega arith)
 begins (x ∷ xs) h = (xs, refl)
-
-none_some : {X : Type 0} {x : X} {o : Option X} → o ≡ None → o ≡ Some x → ⊥
-none_some p q = let z : ◌≡◌ {A = ℕ} 0 1 = cc in omega arith
-
-some_same : {o : Option (ℕ × ℕ)} {x y : ℕ × ℕ} → o ≡ Some x → o ≡ Some y → (x.0 ≡ y.0) × (x.1 ≡ y.1)
-some_same {o} {x} {y} p q = let e : x ≡ y = cc in (ap (λ (z : ℕ × ℕ). z.0) e, ap (λ (z : ℕ × ℕ). z.1) e)
-
-pair : (x y u v : ℕ) → x ≡ u → y ≡ v → ◌≡◌ {A = ℕ × ℕ} (x, y) (u, v)
-pair x y u v e f i = (e i, f i)
 
 -- with the same top, the list of the smaller number is no longer
 module _ (P : Searched) (good : Upward P) where
@@ -40,7 +33,7 @@ module _ (P : Searched) (good : Upward P) where
   all = (searched_stands P good 0).1
 
   tree : Treelike S
-  tree = (searched_stands P good 0).0.by_method.tree
+  tree = (law P good).tree
 
   shorter : (v i : ℕ) → v ≤ i → i < P.size → 1 ≤ length_at P v → 1 ≤ length_at P i → top_at P v ≡ top_at P i → length_at P v ≤ length_at P i
   shorter v i le l nv ni same =
@@ -62,7 +55,9 @@ module _ (P : Searched) (link : ℕ → ℕ) (good : Upward P) (apart : (i j : �
   abbrev len : ℕ → ℕ
   len = length_at P
 
-  start : (first : ℕ → ℕ) (latest : ℕ → Option (ℕ × ℕ)) → ((e : ℕ) → e < P.many → first e ≡ e) → ((x : ℕ) → latest x ≡ None) → Firsts P link P.size first latest
+  start :
+      (first : ℕ → ℕ) (latest : ℕ → Option (ℕ × ℕ)) → ((e : ℕ) → e < P.many → first e ≡ e) → ((x : ℕ) → latest x ≡ None) →
+      Firsts P link P.size first latest
   start first latest own bare =
       record {
         other = λ e l _. own e l;
@@ -70,7 +65,7 @@ module _ (P : Searched) (link : ℕ → ℕ) (good : Upward P) (apart : (i j : �
         named = λ j d. absurd (over j d.0);
         alike = λ i j d _ _ _. absurd (over i d.0);
         none = λ x _ j d _. over j d.0;
-        some = λ x l f e. absurd (none_some (bare x) e);
+        some = λ x l f e. absurd (none-some _ (sym (bare x) ∙ e));
       }
     where
       over : (j : ℕ) → Done P link P.size j → ⊥
@@ -130,7 +125,7 @@ module _ (P : Searched) (link : ℕ → ℕ) (good : Upward P) (apart : (i j : �
     single_turn h is =
         record {
           other = other;
-          lone = λ j d n. pick j d n (cases_eq j v);
+          lone = lone;
           named = λ j d. named_old j d (not_v j d);
           alike = λ i j di dj. alike_old i j di dj (not_v i di) (not_v j dj);
           none = λ x e j d. none_old x e j d (not_v j d);
@@ -140,9 +135,11 @@ module _ (P : Searched) (link : ℕ → ℕ) (good : Upward P) (apart : (i j : �
         not_v : (j : ℕ) → Long P link v j → j ≢ v
         not_v j d e = let q = ap len e in omega (arith, d.1)
 
-        pick : (j : ℕ) → Done P link v j → len j ≡ 1 → (j ≡ v) ⊎ (j ≡ v → ⊥) → first' (link j) ≡ top j
-        pick j d n (inl e) = at_v j e ∙ is ∙ ap top (sym e)
-        pick j d n (inr ne) = lone_old j d n ne
+        lone : (j : ℕ) → Done P link v j → len j ≡ 1 → first' (link j) ≡ top j
+        lone j d n =
+            let here = at_v j in
+            let old = lone_old j d n in
+            grind (arith, cases_eq j v)
 
     lone_long : 2 ≤ len v → (j : ℕ) → Done P link v j → len j ≡ 1 → first' (link j) ≡ top j
     lone_long h j d n = lone_old j d n (λ e. let q = ap len e in absurd (omega arith))
@@ -154,9 +151,9 @@ module _ (P : Searched) (link : ℕ → ℕ) (good : Upward P) (apart : (i j : �
           other = other;
           lone = lone_long h;
           named = λ j d. named j d (cases_eq j v);
-          alike = λ i j di dj t n. alike i j di dj t n (cases_eq i v) (cases_eq j v);
-          none = λ x e j d t. none x e j d t (cases_eq j v);
-          some = λ x l g e. (some_old x l g e, λ j d t. least x l g e j d t (cases_eq j v));
+          alike = alike;
+          none = none;
+          some = λ x l g e. (some_old x l g e, least x l g e);
         }
       where
         before : (i : ℕ) × Long P link (suc v) i × (top i ≡ top v) × (len i ≡ len v) × (first (link i) ≡ f)
@@ -176,22 +173,20 @@ module _ (P : Searched) (link : ℕ → ℕ) (good : Upward P) (apart : (i j : �
             let o = older j d.0 n in
             sym b.4 ∙ F.alike b.0 j b.1 (o, d.1) (b.2 ∙ sym t) (b.3 ∙ sym l) ∙ sym (keeps j o)
 
-        alike : (i j : ℕ) → Long P link v i → Long P link v j → top i ≡ top j → len i ≡ len j → (i ≡ v) ⊎ (i ≡ v → ⊥) → (j ≡ v) ⊎ (j ≡ v → ⊥) → first' (link i) ≡ first' (link j)
-        alike i j di dj t n (inl e) (inl q) = at_v i e ∙ sym (at_v j q)
-        alike i j di dj t n (inl e) (inr nj) = at_v i e ∙ with_v j dj nj (sym t ∙ ap top e) (sym n ∙ ap len e)
-        alike i j di dj t n (inr ni) (inl q) = sym (with_v i di ni (t ∙ ap top q) (n ∙ ap len q)) ∙ sym (at_v j q)
-        alike i j di dj t n (inr ni) (inr nj) = alike_old i j di dj ni nj t n
+        alike : (i j : ℕ) → Long P link v i → Long P link v j → top i ≡ top j → len i ≡ len j → first' (link i) ≡ first' (link j)
+        alike i j di dj t n =
+            let i_v = at_v i in
+            let j_v = at_v j in
+            let v_j = with_v j dj in
+            let v_i = with_v i di in
+            let old = alike_old i j di dj in
+            grind (arith, cases_eq i v, cases_eq j v)
 
-        none : (x : ℕ) → latest x ≡ None → (j : ℕ) → Long P link v j → top j ≡ x → (j ≡ v) ⊎ (j ≡ v → ⊥) → ⊥
-        none x e j d t (inl q) = none_some (ap latest (sym (ap top q) ∙ t) ∙ e) met
-        none x e j d t (inr n) = none_old x e j d n t
+        none : (x : ℕ) → latest x ≡ None → (j : ℕ) → Long P link v j → top j ≡ x → ⊥
+        none x e j d t = let old = none_old x e j d in grind (arith, cases_eq j v)
 
-        least : (x l g : ℕ) → latest x ≡ Some (l, g) → (j : ℕ) → Long P link v j → top j ≡ x → (j ≡ v) ⊎ (j ≡ v → ⊥) → l ≤ len j
-        least x l g e j d t (inl q) =
-            let r = some_same (ap latest (sym (ap top q) ∙ t) ∙ e) met in
-            let z = ap len q in
-            omega (arith, r.0)
-        least x l g e j d t (inr n) = least_old x l g e j d n t
+        least : (x l g : ℕ) → latest x ≡ Some (l, g) → (j : ℕ) → Long P link v j → top j ≡ x → l ≤ len j
+        least x l g e j d t = let old = least_old x l g e j d in grind (arith, cases_eq j v)
 
     -- a name that was not there
     new_turn : 2 ≤ len v → ((g : ℕ) → latest (top v) ≡ Some (len v, g) → ⊥) → f ≡ link v →
@@ -201,8 +196,8 @@ module _ (P : Searched) (link : ℕ → ℕ) (good : Upward P) (apart : (i j : �
           other = other;
           lone = lone_long h;
           named = λ j d. named j d (cases_eq j v);
-          alike = λ i j di dj t n. alike i j di dj t n (cases_eq i v) (cases_eq j v);
-          none = λ x e j d t. none x e j d t (cases_eq x (top v)) (cases_eq j v);
+          alike = alike;
+          none = none;
           some = λ x l g e. some x l g e (cases_eq x (top v));
         }
       where
@@ -223,28 +218,32 @@ module _ (P : Searched) (link : ℕ → ℕ) (good : Upward P) (apart : (i j : �
             let q : m ≡ len v = omega (arith, s.3) in
             fresh g (e ∙ ap (λ (i : ℕ). Some (i, g)) q)
 
-        alike : (i j : ℕ) → Long P link v i → Long P link v j → top i ≡ top j → len i ≡ len j → (i ≡ v) ⊎ (i ≡ v → ⊥) → (j ≡ v) ⊎ (j ≡ v → ⊥) → first' (link i) ≡ first' (link j)
-        alike i j di dj t n (inl e) (inl q) = at_v i e ∙ sym (at_v j q)
-        alike i j di dj t n (inl e) (inr nj) = absurd (unmet j dj nj (sym t ∙ ap top e) (sym n ∙ ap len e) (latest (top v)) refl)
-        alike i j di dj t n (inr ni) (inl q) = absurd (unmet i di ni (t ∙ ap top q) (n ∙ ap len q) (latest (top v)) refl)
-        alike i j di dj t n (inr ni) (inr nj) = alike_old i j di dj ni nj t n
+        alike : (i j : ℕ) → Long P link v i → Long P link v j → top i ≡ top j → len i ≡ len j → first' (link i) ≡ first' (link j)
+        alike i j di dj t n =
+            let i_v = at_v i in
+            let j_v = at_v j in
+            let no_i : i ≢ v → top i ≡ top v → len i ≡ len v → ⊥ = λ ni q l. unmet i di ni q l (latest (top v)) refl in
+            let no_j : j ≢ v → top j ≡ top v → len j ≡ len v → ⊥ = λ nj q l. unmet j dj nj q l (latest (top v)) refl in
+            let old = alike_old i j di dj in
+            grind (arith, cases_eq i v, cases_eq j v)
 
-        none : (x : ℕ) → latest' x ≡ None → (j : ℕ) → Long P link v j → top j ≡ x → (x ≡ top v) ⊎ (x ≡ top v → ⊥) → (j ≡ v) ⊎ (j ≡ v → ⊥) → ⊥
-        none x e j d t (inl q) r = none_some (ap latest' (sym q) ∙ e) here
-        none x e j d t (inr n) (inl q) = n (sym t ∙ ap top q)
-        none x e j d t (inr n) (inr nj) = none_old x (sym (rest x n) ∙ e) j d nj t
+        none : (x : ℕ) → latest' x ≡ None → (j : ℕ) → Long P link v j → top j ≡ x → ⊥
+        none x e j d t =
+            let same = rest x in
+            let old : latest x ≡ None → j ≢ v → top j ≡ x → ⊥ = λ q. none_old x q j d in
+            grind (arith, cases_eq x (top v), cases_eq j v)
 
-        least : (x l g : ℕ) → x ≢ top v → latest x ≡ Some (l, g) → (j : ℕ) → Long P link v j → top j ≡ x → (j ≡ v) ⊎ (j ≡ v → ⊥) → l ≤ len j
-        least x l g n e j d t (inl q) = absurd (n (sym t ∙ ap top q))
-        least x l g n e j d t (inr nj) = least_old x l g e j d nj t
+        least : (x l g : ℕ) → x ≢ top v → latest x ≡ Some (l, g) → (j : ℕ) → Long P link v j → top j ≡ x → l ≤ len j
+        least x l g n e j d t = let old = least_old x l g e j d in grind (arith, cases_eq j v)
 
-        some : (x l g : ℕ) → latest' x ≡ Some (l, g) → (x ≡ top v) ⊎ (x ≡ top v → ⊥) → SomeBy x l g × ((j : ℕ) → Long P link v j → top j ≡ x → l ≤ len j)
+        some :
+            (x l g : ℕ) → latest' x ≡ Some (l, g) → (x ≡ top v) ⊎ (x ≡ top v → ⊥) → SomeBy x l g × ((j : ℕ) → Long P link v j → top j ≡ x → l ≤ len j)
         some x l g e (inl q) =
-            let r = some_same (ap latest' (sym q) ∙ e) here in (
+            let r = some_pair_parts _ _ _ _ (sym (ap latest' (sym q) ∙ e) ∙ here) in (
               (v, (done_v, h), sym q, sym r.0, gets.0 ∙ is ∙ sym r.1),
               λ j d t. let k = shorter P good v j d.0.1 d.0.2 (omega arith) (omega (arith, d.1)) (sym q ∙ sym t) in omega (arith, r.0),
             )
-        some x l g e (inr n) = let old = sym (rest x n) ∙ e in (some_old x l g old, λ j d t. least x l g n old j d t (cases_eq j v))
+        some x l g e (inr n) = let old = sym (rest x n) ∙ e in (some_old x l g old, least x l g n old)
 
   pub turn : FirstsTurn P link
   turn =
@@ -267,32 +266,18 @@ module _ (g : Graph) (sound : Sound g) (P : Searched) (number step link : ℕ �
   of_tree : (m k : ℕ) → 0 < k → k < m → m ≤ P.size → name_by m (link k) ≡ (top_at P k, length_at P k)
   unfolding name_by
   of_tree zero k p l h = absurd (omega arith)
-  of_tree (suc m) k p l h = pick (cases_eq m k) (cases_lt 0 m) (of_tree m k p)
-    where
-      no : (ltb 0 m && eqb (link m) (link k)) ≡ false → name_by m (link k) ≡ (top_at P k, length_at P k) → name_by (suc m) (link k) ≡ (top_at P k, length_at P k)
-      no t next = cond-false (ltb 0 m && eqb (link m) (link k)) (top_at P m, length_at P m) (name_by m (link k)) t ∙ next
-
-      pick : (m ≡ k) ⊎ (m ≡ k → ⊥) → (0 < m) ⊎ (m ≤ 0) → (k < m → m ≤ P.size → name_by m (link k) ≡ (top_at P k, length_at P k)) →
-          name_by (suc m) (link k) ≡ (top_at P k, length_at P k)
-      pick (inl e) q next =
-          cond-true (ltb 0 m && eqb (link m) (link k)) (top_at P m, length_at P m) (name_by m (link k))
-          (and_from (ltb 0 m) (eqb (link m) (link k)) (lt-ltb 0 m (omega arith)) (eq-eqb (link m) (link k) (ap link e))) ∙
-          ap (λ (i : ℕ). (top_at P i, length_at P i)) e
-      pick (inr d) (inl q) next =
-          no (and_right (ltb 0 m) (eqb (link m) (link k)) (ne_eqb (link m) (link k) (λ e. d (N.apart m k q (in_plan m (omega arith)) p (in_plan k (omega arith)) e)))) (next (omega arith) (omega arith))
-      pick (inr d) (inr q) next = no (and_left (ltb 0 m) (eqb (link m) (link k)) (le-ltb 0 m q)) (next (omega arith) (omega arith))
+  of_tree (suc m) k p l h =
+      let next = of_tree m k p in
+      let only : 0 < m → link m ≡ link k → m ≡ k = λ q. N.apart m k q (in_plan m (omega arith)) p (in_plan k (omega arith)) in
+      grind (arith, nat_tests, cases_eq m k)
 
   outer : (m e : ℕ) → m ≤ P.size → Outer P link e → name_by m e ≡ (e, 1)
   unfolding name_by
   outer zero e h o = refl
-  outer (suc m) e h o = pick (cases_lt 0 m) (outer m e (omega arith) o)
-    where
-      no : (ltb 0 m && eqb (link m) e) ≡ false → name_by m e ≡ (e, 1) → name_by (suc m) e ≡ (e, 1)
-      no t next = cond-false (ltb 0 m && eqb (link m) e) (top_at P m, length_at P m) (name_by m e) t ∙ next
-
-      pick : (0 < m) ⊎ (m ≤ 0) → name_by m e ≡ (e, 1) → name_by (suc m) e ≡ (e, 1)
-      pick (inl q) = no (and_right (ltb 0 m) (eqb (link m) e) (ne_eqb (link m) e (λ r. o (m, omega arith, (λ z. absurd (omega arith)), r))))
-      pick (inr q) = no (and_left (ltb 0 m) (eqb (link m) e) (le-ltb 0 m q))
+  outer (suc m) e h o =
+      let next = outer m e (omega arith) o in
+      let none : 0 < m → link m ≢ e = λ q r. o (m, omega arith, (λ z. absurd (omega arith)), r) in
+      grind (arith, nat_tests)
 
   named : NameOf P link 0 (name_by P.size)
   named = record { tree = λ k p l. of_tree P.size k p l (omega arith); other = λ e l o. outer P.size e (omega arith) o }
@@ -306,11 +291,7 @@ module _ (g : Graph) (sound : Sound g) (P : Searched) (number step link : ℕ �
 
     -- a list has one bracket or more
     sized : (j : ℕ) → j < P.size → j ≢ 0 → (length_at P j ≡ 1) ⊎ (2 ≤ length_at P j)
-    sized j l n = pick (cases_lt 1 (length_at P j))
-      where
-        pick : (1 < length_at P j) ⊎ (length_at P j ≤ 1) → (length_at P j ≡ 1) ⊎ (2 ≤ length_at P j)
-        pick (inl h) = inr (omega arith)
-        pick (inr h) = let b = tree_links_bracketed g sound P number step link N j (omega arith) (in_plan j l) in inl (omega arith)
+    sized j l n = let b = tree_links_bracketed g sound P number step link N j (omega arith) (in_plan j l) in grind (arith, cases_lt 1 (length_at P j))
 
     -- the one bracket is outside the tree
     lone_outer : (j : ℕ) → j < P.size → length_at P j ≡ 1 → (top_at P j < P.many) × Outer P link (top_at P j)
@@ -330,10 +311,12 @@ module _ (g : Graph) (sound : Sound g) (P : Searched) (number step link : ℕ �
         at : (length_at P j ≡ 1) ⊎ (2 ≤ length_at P j) → name_by P.size (first (link j)) ≡ name_by P.size (link j)
         at (inl h) =
             let b = lone_outer j lj h in
-            ap (name_by P.size) (F.lone j (done j lj nj) h) ∙ named.other (top_at P j) b.0 b.1 ∙ pair (top_at P j) 1 (top_at P j) (length_at P j) refl (sym h) ∙ sym own
+            let name = named.other (top_at P j) b.0 b.1 in
+            ap (name_by P.size) (F.lone j (done j lj nj) h) ∙ cc (name, own)
         at (inr h) =
             let r = F.named j (done j lj nj, h) in
-            ap (name_by P.size) r.4 ∙ named.tree r.0 r.1.0 r.1.2 ∙ pair (top_at P r.0) (length_at P r.0) (top_at P j) (length_at P j) r.2 r.3 ∙ sym own
+            let name = named.tree r.0 r.1.0 r.1.2 in
+            ap (name_by P.size) r.4 ∙ cc (name, own)
 
     -- equal names, the same link
     tree_other : (j b : ℕ) → j < P.size → j ≢ 0 → b < P.many → Outer P link b → name_by P.size (link j) ≡ name_by P.size b → first (link j) ≡ first b
@@ -341,7 +324,9 @@ module _ (g : Graph) (sound : Sound g) (P : Searched) (number step link : ℕ �
         let q = sym (named.tree j (omega arith) lj) ∙ e ∙ named.other b lb o in
         F.lone j (done j lj nj) (ap (λ (z : ℕ × ℕ). z.1) q) ∙ ap (λ (z : ℕ × ℕ). z.0) q ∙ sym (F.other b lb o)
 
-    equal : (a b : ℕ) → a < P.many → b < P.many → InTree a ⊎ (InTree a → ⊥) → InTree b ⊎ (InTree b → ⊥) → name_by P.size a ≡ name_by P.size b → first a ≡ first b
+    equal :
+        (a b : ℕ) → a < P.many → b < P.many → InTree a ⊎ (InTree a → ⊥) → InTree b ⊎ (InTree b → ⊥) → name_by P.size a ≡ name_by P.size b →
+        first a ≡ first b
     equal a b la lb (inr o) (inr q) e =
         let r = sym (named.other a la o) ∙ e ∙ named.other b lb q in ap first (ap (λ (z : ℕ × ℕ). z.0) r)
     equal a b la lb (inl (j, lj, nj, r)) (inr o) e =

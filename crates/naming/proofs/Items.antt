@@ -1,5 +1,5 @@
 -- The lowest dst of a subtree's back links, and what the caps are for.
-use Rattle.std.proofs.Common.{◌≡◌, ℕ, zero, suc, ◌+◌, ◌<◌, ◌≤◌, min, true, false, ◌≢◌, ◌⊎◌, sym, ap, ◌∙◌, subst, inl, inr, arith}
+use Rattle.std.proofs.Common.{◌≡◌, ℕ, zero, suc, ◌+◌, ◌<◌, ◌≤◌, min, true, false, ◌≢◌, ◌⊎◌, subst, inl, inr, arith}
 use Rattle.std.proofs.lemmas.Bool.{cases_eq, cases_lt, cases_Bool}
 use Rattle.naming.specs.Words.{Elem, low}
 use Rattle.naming.specs.Names.{Shape, ByMethod, hi2}
@@ -19,9 +19,9 @@ module _ {X : Type 0} (S : Shape X) (law : ByMethod S) where
       let s = law.own_src k x l m in
       record {
         within = omega arith;
-        item = subst (λ (i : ℕ). Elem x (S.own i)) (sym s) m;
+        item = rw s m;
         link = e;
-        below = ap (S.sub k) s ∙ sub_self S law.tree k l;
+        below = rw s (sub_self S law.tree k l);
       }
 
   kid_under : (k c : ℕ) (x : X) → k < S.size → Elem c (S.kids k) → Under S c x → Under S k x

@@ -20,8 +20,8 @@ module _ {X : Type 0} (S : Shape X) (law : ByMethod S) where
       let s = law.own_src k x l m in
       record {
         within = omega arith;
-        item = subst (λ (i : ℕ). Elem x (S.own i)) (sym s) m;
-        below = ap (S.sub k) s ∙ sub_self S law.tree k l;
+        item = rw s m;
+        below = rw s (sub_self S law.tree k l);
         above = (item_up S law k x l m).1;
       }
 
@@ -44,7 +44,8 @@ module _ {X : Type 0} (S : Shape X) (law : ByMethod S) where
   list_over' (suc m) k x h l e =
       pick (elem_append x (S.own k) (filter (away k) (rest k)) (subst (λ i. Elem x i) (law.list_is k l) e)) (λ c. list_over' m c x)
     where
-      pick : Elem x (S.own k) ⊎ Elem x (filter (away k) (rest k)) → ((c : ℕ) → S.size ≤ c + m → c < S.size → Elem x (S.list c) → Over S c x) → Over S k x
+      pick :
+          Elem x (S.own k) ⊎ Elem x (filter (away k) (rest k)) → ((c : ℕ) → S.size ≤ c + m → c < S.size → Elem x (S.list c) → Over S c x) → Over S k x
       pick (inl q) next = own_over k x l q
       pick (inr q) next =
           let t = elem_keep (away k) x (rest k) q in

@@ -1,3 +1,4 @@
+pub mod Xor
 pub mod Parity
 pub mod Lists
 pub mod Trees

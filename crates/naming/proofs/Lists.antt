@@ -1,7 +1,8 @@
 -- Elements of lists, filters, and lists one after the other.
-use Rattle.std.proofs.Common.{◌≡◌, ℕ, suc, ◌≤◌, Bool, true, false, cond, ◌≢◌, ◌⊎◌, List, [], ◌∷◌, ◌++◌, length, filter, sym, refl, ap, ◌∙◌, subst, ap₂, inl, inr, append-nil, arith}
+use Rattle.std.proofs.Common.{◌≡◌, ℕ, suc, ◌≤◌, Bool, true, ◌≢◌, ◌⊎◌, List, [], ◌∷◌, ◌++◌, length, filter, sym, refl, ap, ◌∙◌, subst, ap₂, inl, inr, append-nil, arith, not}
+use Rattle.std.proofs.lemmas.List.Filters.{length-filter_both}
 use Rattle.std.proofs.lemmas.List.Elements.{filter-append}
-use Rattle.std.proofs.lemmas.Bool.{cases_Bool, both_ways, cond-true, cond-false}
+use Rattle.std.proofs.lemmas.Bool.{cases_Bool}
 use Rattle.naming.specs.Words.{Elem, Once, flat}
 
 pub elem_left : {X : Type 0} (x : X) (xs ys : List X) → Elem x xs → Elem x (xs ++ ys)
@@ -15,42 +16,23 @@ elem_right x (y ∷ xs) ys m = inr (elem_right x xs ys m)
 
 pub elem_append : {X : Type 0} (x : X) (xs ys : List X) → Elem x (xs ++ ys) → Elem x xs ⊎ Elem x ys
 elem_append x [] ys m = inr m
-elem_append x (y ∷ xs) ys (inl e) = inl (inl e)
-elem_append x (y ∷ xs) ys (inr m) = more (elem_append x xs ys m)
-  where
-    more : Elem x xs ⊎ Elem x ys → Elem x (y ∷ xs) ⊎ Elem x ys
-    more (inl q) = inl (inr q)
-    more (inr q) = inr q
+elem_append x (y ∷ xs) ys m = grind (arith, elem_append x xs ys)
 
 pub elem_keep : {X : Type 0} (p : X → Bool) (x : X) (xs : List X) → Elem x (filter p xs) → Elem x xs × (p x ≡ true)
 elem_keep p x [] m = absurd m
-elem_keep p x (y ∷ xs) m = pick (cases_Bool (p y)) (λ q. let r = elem_keep p x xs q in (inr r.0, r.1))
-  where
-    here : p y ≡ true → (x ≡ y) ⊎ Elem x (filter p xs) → (Elem x (filter p xs) → Elem x (y ∷ xs) × (p x ≡ true)) → Elem x (y ∷ xs) × (p x ≡ true)
-    here e (inl q) next = (inl q, ap p q ∙ e)
-    here e (inr q) next = next q
-
-    pick : (p y ≡ true) ⊎ (p y ≡ false) → (Elem x (filter p xs) → Elem x (y ∷ xs) × (p x ≡ true)) → Elem x (y ∷ xs) × (p x ≡ true)
-    pick (inl e) next = here e (subst (λ l. Elem x l) (cond-true (p y) (y ∷ filter p xs) (filter p xs) e) m) next
-    pick (inr e) next = next (subst (λ l. Elem x l) (cond-false (p y) (y ∷ filter p xs) (filter p xs) e) m)
+elem_keep p x (y ∷ xs) m = grind (arith, elem_keep p x xs, cases_Bool (p y))
 
 pub keep_elem : {X : Type 0} (p : X → Bool) (x : X) (xs : List X) → Elem x xs → p x ≡ true → Elem x (filter p xs)
 keep_elem p x [] m t = absurd m
-keep_elem p x (y ∷ xs) (inl e) t =
-    subst (λ l. Elem x l) (sym (cond-true (p y) (y ∷ filter p xs) (filter p xs) (ap p (sym e) ∙ t))) (inl e)
-keep_elem p x (y ∷ xs) (inr m) t = pick (cases_Bool (p y)) (keep_elem p x xs m t)
-  where
-    pick : (p y ≡ true) ⊎ (p y ≡ false) → Elem x (filter p xs) → Elem x (filter p (y ∷ xs))
-    pick (inl e) q = subst (λ l. Elem x l) (sym (cond-true (p y) (y ∷ filter p xs) (filter p xs) e)) (inr q)
-    pick (inr e) q = subst (λ l. Elem x l) (sym (cond-false (p y) (y ∷ filter p xs) (filter p xs) e)) q
+keep_elem p x (y ∷ xs) m t = grind (arith, keep_elem p x xs, cases_Bool (p y))
 
 pub elem_flat : {X : Type 0} (L : ℕ → List X) (x : X) (cs : List ℕ) → Elem x (flat L cs) → (c : ℕ) × Elem c cs × Elem x (L c)
 elem_flat L x [] m = absurd m
-elem_flat L x (c ∷ cs) m = pick (elem_append x (L c) (flat L cs) m) (λ q. let r = elem_flat L x cs q in (r.0, inr r.1, r.2))
+elem_flat L x (c ∷ cs) m = pick (elem_append x (L c) (flat L cs) m) (elem_flat L x cs)
   where
-    pick : Elem x (L c) ⊎ Elem x (flat L cs) → (Elem x (flat L cs) → (b : ℕ) × Elem b (c ∷ cs) × Elem x (L b)) → (b : ℕ) × Elem b (c ∷ cs) × Elem x (L b)
+    pick : Elem x (L c) ⊎ Elem x (flat L cs) → (Elem x (flat L cs) → (b : ℕ) × Elem b cs × Elem x (L b)) → (b : ℕ) × Elem b (c ∷ cs) × Elem x (L b)
     pick (inl q) next = (c, inl refl, q)
-    pick (inr q) next = next q
+    pick (inr q) next = let r = next q in (r.0, inr r.1, r.2)
 
 pub flat_elem : {X : Type 0} (L : ℕ → List X) (x : X) (c : ℕ) (cs : List ℕ) → Elem c cs → Elem x (L c) → Elem x (flat L cs)
 flat_elem L x c [] m q = absurd m
@@ -67,11 +49,7 @@ once_append (x ∷ xs) ys o p h = (λ m. pick (elem_append x xs ys m), once_appe
 
 pub once_keep : {X : Type 0} (p : X → Bool) (xs : List X) → Once xs → Once (filter p xs)
 once_keep p [] o = tt
-once_keep p (y ∷ xs) o = pick (cases_Bool (p y)) (once_keep p xs o.1)
-  where
-    pick : (p y ≡ true) ⊎ (p y ≡ false) → Once (filter p xs) → Once (filter p (y ∷ xs))
-    pick (inl e) r = subst (λ l. Once l) (sym (cond-true (p y) (y ∷ filter p xs) (filter p xs) e)) (λ m. o.0 (elem_keep p y xs m).0, r)
-    pick (inr e) r = subst (λ l. Once l) (sym (cond-false (p y) (y ∷ filter p xs) (filter p xs) e)) r
+once_keep p (y ∷ xs) o = grind (arith, once_keep p xs, elem_keep p y xs, cases_Bool (p y))
 
 pub once_flat : {X : Type 0} (L : ℕ → List X) (cs : List ℕ) → Once cs → ((c : ℕ) → Elem c cs → Once (L c)) →
     ((c d : ℕ) (x : X) → Elem c cs → Elem d cs → Elem x (L c) → Elem x (L d) → c ≡ d) → Once (flat L cs)
@@ -84,28 +62,25 @@ once_flat L (c ∷ cs) o each apart =
 
 pub keep_none : {X : Type 0} (p : X → Bool) (xs : List X) → ((x : X) → Elem x xs → p x ≡ true → ⊥) → filter p xs ≡ []
 keep_none p [] h = refl
-keep_none p (y ∷ xs) h = pick (cases_Bool (p y)) (keep_none p xs (λ x m. h x (inr m)))
-  where
-    pick : (p y ≡ true) ⊎ (p y ≡ false) → filter p xs ≡ [] → filter p (y ∷ xs) ≡ []
-    pick (inl e) r = absurd (h y (inl refl) e)
-    pick (inr e) r = cond-false (p y) (y ∷ filter p xs) (filter p xs) e ∙ r
+keep_none p (y ∷ xs) h =
+    let rest = keep_none p xs (λ x m. h x (inr m)) in
+    let top = h y (inl refl) in
+    grind (arith, cases_Bool (p y))
 
 pub keep_all : {X : Type 0} (p : X → Bool) (xs : List X) → ((x : X) → Elem x xs → p x ≡ true) → filter p xs ≡ xs
 keep_all p [] h = refl
 keep_all p (y ∷ xs) h =
-    cond-true (p y) (y ∷ filter p xs) (filter p xs) (h y (inl refl)) ∙ ap (λ l. y ∷ l) (keep_all p xs (λ x m. h x (inr m)))
+    let rest = keep_all p xs (λ x m. h x (inr m)) in
+    let top = h y (inl refl) in
+    grind arith
 
 -- what passes p passes q: then q need not be asked
 pub keep_inner : {X : Type 0} (p q : X → Bool) (xs : List X) → ((x : X) → p x ≡ true → q x ≡ true) → filter p (filter q xs) ≡ filter p xs
 keep_inner p q [] h = refl
-keep_inner p q (y ∷ xs) h = pick (cases_Bool (q y)) (cases_Bool (p y)) (keep_inner p q xs h)
-  where
-    pick : (q y ≡ true) ⊎ (q y ≡ false) → (p y ≡ true) ⊎ (p y ≡ false) → filter p (filter q xs) ≡ filter p xs → filter p (filter q (y ∷ xs)) ≡ filter p (y ∷ xs)
-    pick (inl e) f r =
-        ap (filter p) (cond-true (q y) (y ∷ filter q xs) (filter q xs) e) ∙ ap (λ l. cond (p y) (y ∷ l) l) r
-    pick (inr e) (inl f) r = absurd (both_ways (q y) e (h y f))
-    pick (inr e) (inr f) r =
-        ap (filter p) (cond-false (q y) (y ∷ filter q xs) (filter q xs) e) ∙ r ∙ sym (cond-false (p y) (y ∷ filter p xs) (filter p xs) f)
+keep_inner p q (y ∷ xs) h =
+    let rest = keep_inner p q xs h in
+    let top = h y in
+    grind (arith, cases_Bool (p y), cases_Bool (q y))
 
 -- of lists one after the other, only that of c has what passes
 pub keep_flat : {X : Type 0} (p : X → Bool) (L : ℕ → List X) (c : ℕ) (cs : List ℕ) → Once cs → Elem c cs →
@@ -123,25 +98,11 @@ keep_flat p L c (b ∷ cs) o (inr m) h =
     other e = o.0 (subst (λ (i : ℕ). Elem i cs) (sym e) m)
 
 pub keep_length : {X : Type 0} (p : X → Bool) (xs : List X) → length (filter p xs) ≤ length xs
-keep_length p [] = omega arith
-keep_length p (y ∷ xs) = pick (cases_Bool (p y)) (keep_length p xs)
-  where
-    pick : (p y ≡ true) ⊎ (p y ≡ false) → length (filter p xs) ≤ length xs → length (filter p (y ∷ xs)) ≤ length (y ∷ xs)
-    pick (inl e) r = rw (cond-true (p y) (y ∷ filter p xs) (filter p xs) e) (omega arith)
-    pick (inr e) r = rw (cond-false (p y) (y ∷ filter p xs) (filter p xs) e) (omega arith)
+keep_length p xs = omega (arith, length-filter_both p (λ x. not (p x)) (λ _. refl) xs)
 
 pub keep_same : {X : Type 0} (p : X → Bool) (xs : List X) → length (filter p xs) ≡ length xs → filter p xs ≡ xs
 keep_same p [] h = refl
-keep_same p (y ∷ xs) h = pick (cases_Bool (p y)) (keep_same p xs)
-  where
-    pick : (p y ≡ true) ⊎ (p y ≡ false) → (length (filter p xs) ≡ length xs → filter p xs ≡ xs) → filter p (y ∷ xs) ≡ y ∷ xs
-    pick (inl e) next =
-        let q = cond-true (p y) (y ∷ filter p xs) (filter p xs) e in
-        let r : length (filter p xs) ≡ length xs = omega (arith, sym (ap length q) ∙ h) in
-        q ∙ ap (λ l. y ∷ l) (next r)
-    pick (inr e) next =
-        let q = cond-false (p y) (y ∷ filter p xs) (filter p xs) e in
-        absurd (omega (arith, sym (ap length q) ∙ h, keep_length p xs))
+keep_same p (y ∷ xs) h = let le = keep_length p xs in grind (arith, keep_same p xs, cases_Bool (p y))
 
 -- if the front is not empty, the top stands in it
 pub top_front : {X : Type 0} (y x : X) (ys zs xs : List X) → ys ++ zs ≡ x ∷ xs → Elem y ys → Elem x ys
@@ -156,6 +117,11 @@ single b (y ∷ (z ∷ xs)) o m h = absurd (o.0 (inl (h y (inl refl) ∙ sym (h 
 pub none_empty : {X : Type 0} (xs : List X) → ((x : X) → Elem x xs → ⊥) → xs ≡ []
 none_empty [] h = refl
 none_empty (x ∷ xs) h = absurd (h x (inl refl))
+
+-- lists that are the same for each number
+pub flat_same : {X : Type 0} (L M : ℕ → List X) (cs : List ℕ) → ((c : ℕ) → Elem c cs → L c ≡ M c) → flat L cs ≡ flat M cs
+flat_same L M [] h = refl
+flat_same L M (c ∷ cs) h = ap₂ ◌++◌ (h c (inl refl)) (flat_same L M cs (λ d m. h d (inr m)))
 
 -- a list of different elements is no longer than one that has them all
 without : {X : Type 0} (x : X) (ys : List X) → Elem x ys → List X

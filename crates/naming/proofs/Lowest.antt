@@ -1,12 +1,11 @@
 -- The lowest and the second lowest.
-use Rattle.std.proofs.Common.{◌≡◌, ℕ, ◌<◌, ◌≤◌, max, ◌≢◌, ◌⊎◌, List, [], ◌∷◌, sym, refl, ap, ◌∙◌, subst, inl, inr, arith}
+use Rattle.std.proofs.Common.{◌≡◌, ℕ, ◌<◌, ◌≤◌, max, ◌≢◌, ◌⊎◌, List, [], ◌∷◌, sym, refl, subst, inl, inr, arith}
 use Rattle.std.proofs.lemmas.Bool.{cases_lt}
 use Rattle.naming.specs.Words.{Elem, Once, low, second}
 
 pub low_le : (n : ℕ) (h : ℕ → ℕ) (c : ℕ) (cs : List ℕ) → Elem c cs → low n h cs ≤ h c
 low_le n h c [] m = absurd m
-low_le n h c (b ∷ cs) (inl e) = let f = ap h e in omega arith
-low_le n h c (b ∷ cs) (inr m) = let r = low_le n h c cs m in omega arith
+low_le n h c (b ∷ cs) m = grind (arith, low_le n h c cs)
 
 pub low_some : (n : ℕ) (h : ℕ → ℕ) (cs : List ℕ) → low n h cs < n → (c : ℕ) × Elem c cs × (h c ≡ low n h cs)
 low_some n h [] l = absurd (omega arith)
@@ -19,10 +18,7 @@ low_some n h (b ∷ cs) l = pick (cases_lt (low n h cs) (h b)) (low_some n h cs)
 
 pub second_le : (n : ℕ) (h : ℕ → ℕ) (c d : ℕ) (cs : List ℕ) → Elem c cs → Elem d cs → c ≢ d → second n h cs ≤ max (h c) (h d)
 second_le n h c d [] m q a = absurd m
-second_le n h c d (b ∷ cs) (inl e) (inl f) a = absurd (a (e ∙ sym f))
-second_le n h c d (b ∷ cs) (inl e) (inr q) a = let f = ap h e in let r = low_le n h d cs q in omega arith
-second_le n h c d (b ∷ cs) (inr m) (inl e) a = let f = ap h e in let r = low_le n h c cs m in omega arith
-second_le n h c d (b ∷ cs) (inr m) (inr q) a = let r = second_le n h c d cs m q a in omega arith
+second_le n h c d (b ∷ cs) m q a = grind (arith, low_le n h c cs, low_le n h d cs, second_le n h c d cs)
 
 -- two different ones, the second lowest and one that is not above it
 abbrev pub Two : ℕ → (ℕ → ℕ) → List ℕ → Type 0

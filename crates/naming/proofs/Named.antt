@@ -1,6 +1,6 @@
 -- The top of a list and its length tell its back links.
 use Rattle.std.proofs.Common.{◌≡◌, ℕ, ◌<◌, ◌≤◌, true, false, ltb, ◌≢◌, ◌⊎◌, ◌↔◌, List, [], ◌∷◌, length, get_or, sym, refl, ap, ◌∙◌, subst, inl, inr, arith}
-use Rattle.std.proofs.lemmas.Bool.{cases_lt, cases_Bool, lt-ltb}
+use Rattle.std.proofs.lemmas.Bool.{cases_lt, cases_Bool, lt-ltb, false_from_ne_true}
 use Rattle.naming.specs.Words.{Elem, flat}
 use Rattle.naming.specs.Names.{Shape, ByMethod, Over, Bracket, SameBracketsAt, SameName, Named}
 use Rattle.naming.proofs.Lists.{elem_keep, keep_elem, keep_all, keep_same, top_front, single, none_empty}
@@ -25,7 +25,9 @@ module _ {X : Type 0} (S : Shape X) (law : ByMethod S) where
       here : Over S k x
       here = list_over S law k x lk (subst (λ i. Elem x i) (sym e) (inl refl))
 
-      quiet : (z c : ℕ) → z < S.size → k ≤ z → S.sub k z ≡ true → Elem c (S.kids z) → S.sub c j ≡ true → cut S law k (S.list z) ≡ S.list k → Quiet S law k z c
+      quiet :
+          (z c : ℕ) → z < S.size → k ≤ z → S.sub k z ≡ true → Elem c (S.kids z) → S.sub c j ≡ true → cut S law k (S.list z) ≡ S.list k →
+          Quiet S law k z c
       quiet z c lz le sz m sc f = (alone, λ d md n y my hy. others d md n y my hy)
         where
           b : (z < c) × (c < S.size) × (S.sub z c ≡ true)
@@ -60,9 +62,8 @@ module _ {X : Type 0} (S : Shape X) (law : ByMethod S) where
   pub told : (d : X) (k j : ℕ) → k < S.size → j < S.size → SameName S d k j → S.list k ≡ S.list j
   told d k j lk lj same = pick (S.list k) (S.list j) refl refl
     where
-      both : (x : X) (xs ys : List X) → S.list k ≡ x ∷ xs → S.list j ≡ x ∷ ys → (k < j) ⊎ (j ≤ k) → S.list k ≡ S.list j
-      both x xs ys e f c =
-          split_on c
+      both : (x : X) (xs ys : List X) → S.list k ≡ x ∷ xs → S.list j ≡ x ∷ ys → S.list k ≡ S.list j
+      both x xs ys e f = split_on (cases_lt k j)
         where
           ok : Over S k x
           ok = list_over S law k x lk (subst (λ i. Elem x i) (sym e) (inl refl))
@@ -82,7 +83,7 @@ module _ {X : Type 0} (S : Shape X) (law : ByMethod S) where
       pick (x ∷ xs) [] e f = absurd (omega (arith, sym (ap length e) ∙ same.1 ∙ ap length f))
       pick (x ∷ xs) (y ∷ ys) e f =
           let top : y ≡ x = sym (ap (λ i. get_or i 0 d) f) ∙ sym same.0 ∙ ap (λ i. get_or i 0 d) e in
-          both x xs ys e (f ∙ ap (λ i. i ∷ ys) top) (cases_lt k j)
+          both x xs ys e (f ∙ ap (λ i. i ∷ ys) top)
 
   -- the same brackets, one below the other: the same list
   alike_below : (k j : ℕ) → k < S.size → j < S.size → S.sub k j ≡ true → SameBracketsAt S k j → S.list k ≡ S.list j
@@ -94,7 +95,9 @@ module _ {X : Type 0} (S : Shape X) (law : ByMethod S) where
           let o = (same r.0).1 r.1 in
           lt-ltb (S.dst y) k (omega (arith, r.2, o.0.above))
 
-      quiet : (z c : ℕ) → z < S.size → k ≤ z → S.sub k z ≡ true → Elem c (S.kids z) → S.sub c j ≡ true → cut S law k (S.list z) ≡ S.list k → Quiet S law k z c
+      quiet :
+          (z c : ℕ) → z < S.size → k ≤ z → S.sub k z ≡ true → Elem c (S.kids z) → S.sub c j ≡ true → cut S law k (S.list z) ≡ S.list k →
+          Quiet S law k z c
       quiet z c lz le sz m sc f = (λ y my hy. alone y my hy (cases_Bool (S.cap y)), others)
         where
           -- a back link from a child of z that goes above k is from the child c
@@ -151,7 +154,7 @@ module _ {X : Type 0} (S : Shape X) (law : ByMethod S) where
   )
 
   lone_to : (k : ℕ) (b : X) → k < S.size → S.list k ≡ b ∷ [] → (x : X) → Bracket S k x ↔ (x ≡ b)
-  lone_to k b l e x = (only x, λ q. subst (λ i. Bracket S k i) (sym q) (here, link (cases_Bool (S.cap b))))
+  lone_to k b l e x = (only x, λ q. subst (λ i. Bracket S k i) (sym q) (here, false_from_ne_true (S.cap b) not_cap))
     where
       at_top : (y : X) → Elem y (b ∷ []) → y ≡ b
       at_top y (inl q) = q
@@ -163,12 +166,12 @@ module _ {X : Type 0} (S : Shape X) (law : ByMethod S) where
       here : Over S k b
       here = list_over S law k b l (subst (λ i. Elem b i) (sym e) (inl refl))
 
-      link : (S.cap b ≡ true) ⊎ (S.cap b ≡ false) → S.cap b ≡ false
-      link (inl t) = let p = cap_both S law k b here t in absurd (p.apart (only p.r p.r_is ∙ sym (only p.s p.s_is)))
-      link (inr t) = t
+      not_cap : S.cap b ≡ true → ⊥
+      not_cap t = let p = cap_both S law k b here t in p.apart (only p.r p.r_is ∙ sym (only p.s p.s_is))
 
   lone_from : (k : ℕ) (b : X) → k < S.size → ((x : X) → Bracket S k x ↔ (x ≡ b)) → S.list k ≡ b ∷ []
-  lone_from k b l h = single b (S.list k) (list_once S law k l) (over_list S law k b l ((h b).1 refl).0) (λ y m. each y (list_over S law k y l m) (cases_Bool (S.cap y)))
+  lone_from k b l h =
+      single b (S.list k) (list_once S law k l) (over_list S law k b l ((h b).1 refl).0) (λ y m. each y (list_over S law k y l m) (cases_Bool (S.cap y)))
     where
       each : (y : X) → Over S k y → (S.cap y ≡ true) ⊎ (S.cap y ≡ false) → y ≡ b
       each y o (inl t) = let p = cap_both S law k y o t in absurd (p.apart ((h p.r).0 p.r_is ∙ sym ((h p.s).0 p.s_is)))

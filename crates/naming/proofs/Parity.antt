@@ -1,5 +1,7 @@
 -- The links of a tree cut off a set exactly where their brackets are the same.
-use Rattle.std.proofs.Common.{◌≡◌, ℕ, zero, suc, ◌<◌, Bool, true, false, ◌||◌, eqb, ◌≢◌, ◌⊎◌, ◌↔◌, length, sym, refl, ap, ◌∙◌, subst, ap₂, inl, inr, arith}
+use Rattle.std.proofs.Common.{◌≡◌, ℕ, zero, suc, ◌<◌, Bool, false, ◌||◌, eqb, ◌≢◌, ◌⊎◌, ◌↔◌, length, sym, refl, ap, ◌∙◌, subst, ap₂, inl, inr, arith}
+use Rattle.std.proofs.Math.Bool.{or-false}
+use Rattle.std.proofs.lemmas.Bool.Decides.{nat_tests}
 use mathlib.Core.Bool.{xor}
 use Rattle.std.proofs.lemmas.Bool.{cases_eq, eq-eqb, ne_eqb, eqb-true, or_from, false≢true}
 use Rattle.model.specs.Meaning.{tail_of, head_of, EndsBelow}
@@ -7,76 +9,8 @@ use Rattle.model.specs.Walks.{Links, closed, Share}
 use Rattle.theory.specs.Cuts.{crosses, Crossed}
 use Rattle.theory.proofs.Sides.{xor_same}
 use Rattle.theory.proofs.Plans.{closed_within, share_is_cut}
+use Rattle.naming.proofs.Xor.{xor_self, xor_comm, xor_cancel, xor_via, xor_mid, xor_or}
 use Rattle.naming.specs.Brackets.{Tree, OfTree, SameBrackets, LoneBracket, BracketsTell}
-
-xor_self : (a : Bool) → xor a a ≡ false
-unfolding xor
-xor_self true = refl
-xor_self false = refl
-
-xor_comm : (a b : Bool) → xor a b ≡ xor b a
-unfolding xor
-xor_comm true true = refl
-xor_comm true false = refl
-xor_comm false true = refl
-xor_comm false false = refl
-
-xor_cancel : (a b : Bool) → xor (xor a b) b ≡ a
-unfolding xor
-xor_cancel true true = refl
-xor_cancel true false = refl
-xor_cancel false true = refl
-xor_cancel false false = refl
-
-xor_via : (a b c : Bool) → xor a c ≡ xor (xor a b) (xor b c)
-unfolding xor
-xor_via true true true = refl
-xor_via true true false = refl
-xor_via true false true = refl
-xor_via true false false = refl
-xor_via false true true = refl
-xor_via false true false = refl
-xor_via false false true = refl
-xor_via false false false = refl
-
-xor_mid : (a b c d : Bool) → xor (xor a b) (xor c d) ≡ xor (xor a c) (xor b d)
-unfolding xor
-xor_mid true true c d = both c d
-  where
-    both : (c d : Bool) → xor (xor true true) (xor c d) ≡ xor (xor true c) (xor true d)
-    both true true = refl
-    both true false = refl
-    both false true = refl
-    both false false = refl
-xor_mid true false c d = both c d
-  where
-    both : (c d : Bool) → xor (xor true false) (xor c d) ≡ xor (xor true c) (xor false d)
-    both true true = refl
-    both true false = refl
-    both false true = refl
-    both false false = refl
-xor_mid false true c d = both c d
-  where
-    both : (c d : Bool) → xor (xor false true) (xor c d) ≡ xor (xor false c) (xor true d)
-    both true true = refl
-    both true false = refl
-    both false true = refl
-    both false false = refl
-xor_mid false false c d = both c d
-  where
-    both : (c d : Bool) → xor (xor false false) (xor c d) ≡ xor (xor false c) (xor false d)
-    both true true = refl
-    both true false = refl
-    both false true = refl
-    both false false = refl
-
--- not both: xor is or
-xor_or : (a b : Bool) → (a ≡ true → b ≡ true → ⊥) → xor a b ≡ (a || b)
-unfolding xor
-xor_or true true h = absurd (h refl refl)
-xor_or true false h = refl
-xor_or false true h = refl
-xor_or false false h = refl
 
 -- whether a link is of the tree is decided
 pub is_of_tree? : (n root : ℕ) (link : ℕ → ℕ) (k : ℕ) → OfTree n root link k ⊎ (OfTree n root link k → ⊥)
@@ -87,10 +21,11 @@ is_of_tree? (suc n) root link k = pick (is_of_tree? n root link k) (cases_eq (li
     least none here o = split (cases_eq o.0 n)
       where
         split : (o.0 ≡ n) ⊎ (o.0 ≡ n → ⊥) → ⊥
-        split (inl e) = here (λ f. o.2 (e ∙ f)) (ap link (sym e) ∙ o.3)
+        split (inl e) = here (λ f. o.2 (e ∙ f)) (cc)
         split (inr d) = none (o.0, omega (arith, o.1, d), o.2, o.3)
 
-    pick : OfTree n root link k ⊎ (OfTree n root link k → ⊥) → (link n ≡ k) ⊎ (link n ≡ k → ⊥) → (n ≡ root) ⊎ (n ≡ root → ⊥) → OfTree (suc n) root link k ⊎ (OfTree (suc n) root link k → ⊥)
+    pick : OfTree n root link k ⊎ (OfTree n root link k → ⊥) → (link n ≡ k) ⊎ (link n ≡ k → ⊥) → (n ≡ root) ⊎ (n ≡ root → ⊥) →
+        OfTree (suc n) root link k ⊎ (OfTree (suc n) root link k → ⊥)
     pick (inl o) l z = inl (o.0, omega (arith, o.1), o.2, o.3)
     pick (inr none) (inl e) (inl z) = inr (least none (λ p _. p z))
     pick (inr none) (inl e) (inr z) = inl (n, omega arith, z, e)
@@ -101,30 +36,26 @@ module _ (G : Links) (n root : ℕ) (rank parent link : ℕ → ℕ) (sub : ℕ 
   joined : (X : ℕ → Bool) (v : ℕ) → v < n → v ≢ root → crosses G X (link v) ≡ xor (X v) (X (parent v))
   joined X v l p = pick (tree.joins v l p)
     where
-      pick : ((tail_of G (link v) ≡ parent v) × (head_of G (link v) ≡ v)) ⊎ ((tail_of G (link v) ≡ v) × (head_of G (link v) ≡ parent v)) → crosses G X (link v) ≡ xor (X v) (X (parent v))
+      pick :
+          ((tail_of G (link v) ≡ parent v) × (head_of G (link v) ≡ v)) ⊎ ((tail_of G (link v) ≡ v) × (head_of G (link v) ≡ parent v)) →
+          crosses G X (link v) ≡ xor (X v) (X (parent v))
       pick (inl e) = ap₂ xor (ap X e.0) (ap X e.1) ∙ xor_comm (X (parent v)) (X v)
       pick (inr e) = ap₂ xor (ap X e.0) (ap X e.1)
 
   -- a tree link crosses the subtree of its own step alone
   sub_step : (t v : ℕ) → t < n → v < n → v ≢ root → xor (sub t v) (sub t (parent v)) ≡ eqb v t
   unfolding xor
-  sub_step t v q l p = pick (cases_eq v t)
-    where
-      pick : (v ≡ t) ⊎ (v ≡ t → ⊥) → xor (sub t v) (sub t (parent v)) ≡ eqb v t
-      pick (inl e) =
-          let up : rank (parent v) < rank t = subst (λ (x : ℕ). rank (parent v) < rank x) e (tree.up v l p) in
-          rw (tree.sub_more t v q l p, eq-eqb v t e, tree.sub_up t (parent v) q (tree.in_graph v l p) up) refl
-      pick (inr d) = rw (tree.sub_more t v q l p, ne_eqb v t d) (xor_self (sub t (parent v)))
+  sub_step t v q l p =
+      let more = tree.sub_more t v q l p in
+      let up = tree.up v l p in
+      let high = tree.sub_up t (parent v) q (tree.in_graph v l p) in
+      grind (arith, nat_tests)
 
   pub tree_cross : (t v : ℕ) → t < n → v < n → v ≢ root → crosses G (sub t) (link v) ≡ eqb v t
   tree_cross t v q l p = joined (sub t) v l p ∙ sub_step t v q l p
 
   same_number : (v t : ℕ) → v < n → v ≢ root → t < n → t ≢ root → eqb (link v) (link t) ≡ eqb v t
-  same_number v t l p m q = pick (cases_eq v t)
-    where
-      pick : (v ≡ t) ⊎ (v ≡ t → ⊥) → eqb (link v) (link t) ≡ eqb v t
-      pick (inl e) = eq-eqb (link v) (link t) (ap link e) ∙ sym (eq-eqb v t e)
-      pick (inr d) = ne_eqb (link v) (link t) (λ e. d (tree.apart v t l p m q e)) ∙ sym (ne_eqb v t d)
+  same_number v t l p m q = let a = tree.apart v t l p m q in grind (arith, nat_tests)
 
   not_link : (k t : ℕ) → t < n → t ≢ root → (OfTree n root link k → ⊥) → eqb k (link t) ≡ false
   not_link k t l p none = ne_eqb k (link t) (λ e. none (t, l, p, sym e))
@@ -187,31 +118,30 @@ module _ (G : Links) (n root : ℕ) (rank parent link : ℕ → ℕ) (sub : ℕ 
         xor_same (crosses G (sub s) k) (crosses G (sub t) k) (sym (mix k) ∙ sym e ∙ parted k l ∙ outside k none)
 
   -- a tree link and a link outside the tree
-  or_false : (x y : Bool) → y ≡ false → (x || y) ≡ x
-  or_false true y e = refl
-  or_false false y e = e
+  beside : (t e v : ℕ) → t < n → t ≢ root → (OfTree n root link e → ⊥) → v < n → v ≢ root → (eqb (link v) (link t) || eqb (link v) e) ≡ eqb v t
+  beside t e v lt pt out m p = rw (same_number v t m p lt pt, ne_eqb (link v) e (λ q. out (v, m, p, q))) (or-false (eqb v t))
 
   pub lone_parts : (t e : ℕ) → t < n → t ≢ root → (OfTree n root link e → ⊥) → LoneBracket G n root link sub t e → Crossed G (sub t) (link t) e
   lone_parts t e lt pt out lone k l = pick (is_of_tree? n root link k)
     where
       at : (v : ℕ) → v < n → v ≢ root → crosses G (sub t) (link v) ≡ (eqb (link v) (link t) || eqb (link v) e)
-      at v m p =
-          tree_cross t v lt m p ∙ sym (same_number v t m p lt pt) ∙ sym (or_false (eqb (link v) (link t)) (eqb (link v) e) (ne_eqb (link v) e (λ q. out (v, m, p, q))))
+      at v m p = tree_cross t v lt m p ∙ sym (beside t e v lt pt out m p)
 
       pick : OfTree n root link k ⊎ (OfTree n root link k → ⊥) → crosses G (sub t) k ≡ (eqb k (link t) || eqb k e)
       pick (inl o) = subst (λ (x : ℕ). crosses G (sub t) x ≡ (eqb x (link t) || eqb x e)) o.3 (at o.0 o.1 o.2)
       pick (inr none) = lone k l none ∙ sym (ap (λ (x : Bool). x || eqb k e) (not_link k t lt pt none))
 
-  pub parts_lone : EndsBelow n G → (t e : ℕ) → t < n → t ≢ root → (OfTree n root link e → ⊥) → (S : ℕ → Bool) → Crossed G S (link t) e → LoneBracket G n root link sub t e
+  pub parts_lone :
+      EndsBelow n G → (t e : ℕ) → t < n → t ≢ root → (OfTree n root link e → ⊥) → (S : ℕ → Bool) → Crossed G S (link t) e →
+      LoneBracket G n root link sub t e
   parts_lone within t e lt pt out S parted k l none =
       sym (mirrored within S (sub t) alike (tree.sub_root t lt pt) k l) ∙ parted k l ∙ ap (λ (x : Bool). x || eqb k e) (not_link k t lt pt none)
     where
       alike : (v : ℕ) → v < n → v ≢ root → crosses G S (link v) ≡ xor (sub t v) (sub t (parent v))
-      alike v m p =
-          parted (link v) (tree.is_link v m p) ∙ or_false (eqb (link v) (link t)) (eqb (link v) e) (ne_eqb (link v) e (λ q. out (v, m, p, q))) ∙
-          same_number v t m p lt pt ∙ sym (sub_step t v lt m p)
+      alike v m p = parted (link v) (tree.is_link v m p) ∙ beside t e v lt pt out m p ∙ sym (sub_step t v lt m p)
 
-  pub outer : EndsBelow n G → (e f : ℕ) → e < length G → (OfTree n root link e → ⊥) → (OfTree n root link f → ⊥) → (S : ℕ → Bool) → Crossed G S e f → ⊥
+  pub outer :
+      EndsBelow n G → (e f : ℕ) → e < length G → (OfTree n root link e → ⊥) → (OfTree n root link f → ⊥) → (S : ℕ → Bool) → Crossed G S e f → ⊥
   outer within e f le oe of S parted =
       false≢true (sym (mirrored within S (λ _. false) alike refl e le ∙ xor_self false) ∙ parted e le ∙ ap (λ (x : Bool). x || eqb e f) (eq-eqb e e refl))
     where

@@ -1,8 +1,9 @@
 -- The computed items obey the laws.
-use Rattle.std.proofs.Common.{◌≡◌, ℕ, suc, ◌+◌, ◌-◌, ◌<◌, ◌≤◌, true, false, ltb, ◌⊎◌, ◌∷◌, sym, refl, ap, ◌∙◌, subst, inl, inr, arith}
-use Rattle.std.proofs.lemmas.Bool.{cases_Bool, both_ways, and_parts, and_from, not-true, not-false, not_from_true, ltb-true, lt-ltb, le-ltb, cond-true, cond-false}
+use Rattle.std.proofs.Common.{◌≡◌, ℕ, suc, ◌+◌, ◌-◌, ◌<◌, ◌≤◌, true, false, ltb, ◌⊎◌, ◌∷◌, sym, refl, ap, ◌∙◌, subst, inl, arith}
+use Rattle.std.proofs.lemmas.Bool.Decides.{nat_tests}
+use Rattle.std.proofs.lemmas.Bool.{cases_Bool, and_parts, and_from, not_from_true, ltb-true, lt-ltb, le-ltb, cond-true, cond-false}
 use Rattle.naming.specs.Words.{Elem, Once}
-use Rattle.naming.specs.Names.{hi2}
+use Rattle.naming.specs.Names.{ByMethod, hi2}
 use Rattle.naming.specs.Built.{Base, sub_at, shape_of, Ready}
 use Rattle.naming.specs.Searched.{Searched, low_own, low_second, capped, base_of, Upward, SearchedStands}
 use Rattle.naming.proofs.Lowest.{low_le, low_some}
@@ -18,22 +19,10 @@ module _ (P : Searched) (good : Upward P) where
   Own k x = ((x ≡ P.many + k) × (capped P k ≡ true)) ⊎ Elem x (P.links k)
 
   pub own_cases : (k x : ℕ) → Elem x (B.own k) → Own k x
-  own_cases k x m = pick (cases_Bool (capped P k))
-    where
-      first : capped P k ≡ true → (x ≡ P.many + k) ⊎ Elem x (P.links k) → Own k x
-      first t (inl e) = inl (e, t)
-      first t (inr q) = inr q
-
-      pick : (capped P k ≡ true) ⊎ (capped P k ≡ false) → Own k x
-      pick (inl t) = first t (subst (λ l. Elem x l) (cond-true (capped P k) ((P.many + k) ∷ P.links k) (P.links k) t) m)
-      pick (inr t) = inr (subst (λ l. Elem x l) (cond-false (capped P k) ((P.many + k) ∷ P.links k) (P.links k) t) m)
+  own_cases k x m = grind (arith, cases_Bool (capped P k))
 
   pub own_link : (k x : ℕ) → Elem x (P.links k) → Elem x (B.own k)
-  own_link k x m = pick (cases_Bool (capped P k))
-    where
-      pick : (capped P k ≡ true) ⊎ (capped P k ≡ false) → Elem x (B.own k)
-      pick (inl t) = subst (λ l. Elem x l) (sym (cond-true (capped P k) ((P.many + k) ∷ P.links k) (P.links k) t)) (inr m)
-      pick (inr t) = subst (λ l. Elem x l) (sym (cond-false (capped P k) ((P.many + k) ∷ P.links k) (P.links k) t)) m
+  own_link k x m = grind (arith, cases_Bool (capped P k))
 
   -- the number of a cap
   not_link : (x k : ℕ) → x ≡ P.many + k → (ltb x P.many ≡ false) × (x - P.many ≡ k)
@@ -55,34 +44,23 @@ module _ (P : Searched) (good : Upward P) where
 
   -- an own item is a back link, or else a cap
   pub link_of : (k x : ℕ) → Elem x (B.own k) → B.cap x ≡ false → Elem x (P.links k)
-  link_of k x m e = pick (own_cases k x m)
-    where
-      pick : Own k x → Elem x (P.links k)
-      pick (inr q) = q
-      pick (inl q) = absurd (both_ways (ltb x P.many) (not_link x k q.0).0 (not-false (ltb x P.many) e))
+  link_of k x m e = grind (arith, nat_tests, own_cases k x m)
 
   cap_of : (k x : ℕ) → k < P.size → Elem x (B.own k) → B.cap x ≡ true → (x ≡ P.many + k) × (capped P k ≡ true)
-  cap_of k x l m e = pick (own_cases k x m)
-    where
-      pick : Own k x → (x ≡ P.many + k) × (capped P k ≡ true)
-      pick (inl q) = q
-      pick (inr q) = absurd (both_ways (ltb x P.many) (not-true (ltb x P.many) e) (lt-ltb x P.many (good.link k x l q).0))
+  cap_of k x l m e = let g = good.link k x l in grind (arith, nat_tests, own_cases k x m)
 
   own_src : (k x : ℕ) → k < P.size → Elem x (B.own k) → B.src x ≡ k
-  own_src k x l m = pick (own_cases k x m)
-    where
-      pick : Own k x → B.src x ≡ k
-      pick (inl q) = cap_src x k q.0
-      pick (inr q) = let g = good.link k x l q in link_src x g.0 ∙ g.1
+  own_src k x l m =
+      let g = good.link k x l in
+      let c = cap_src x k in
+      let s = link_src x in
+      grind (arith, own_cases k x m)
 
   own_once : (k : ℕ) → k < P.size → Once (B.own k)
-  own_once k l = pick (cases_Bool (capped P k))
-    where
-      pick : (capped P k ≡ true) ⊎ (capped P k ≡ false) → Once (B.own k)
-      pick (inl t) =
-          subst (λ l. Once l) (sym (cond-true (capped P k) ((P.many + k) ∷ P.links k) (P.links k) t))
-          (λ m. let g = good.link k (P.many + k) l m in absurd (omega (arith, g.0)), good.once k l)
-      pick (inr t) = subst (λ l. Once l) (sym (cond-false (capped P k) ((P.many + k) ∷ P.links k) (P.links k) t)) (good.once k l)
+  own_once k l =
+      let g = good.link k (P.many + k) l in
+      let o = good.once k l in
+      grind (arith, cases_Bool (capped P k))
 
   link_up : (k x : ℕ) → k < P.size → Elem x (B.own k) → B.cap x ≡ false → ((shape_of B).sub (B.dst x) k ≡ true) × (B.dst x < k)
   link_up k x l m e =
@@ -109,7 +87,8 @@ module _ (P : Searched) (good : Upward P) where
       let t = and_parts (ltb (low_second P k) (low_own P k)) (ltb (low_second P k) k) q.1 in
       (ltb-true (low_second P k) k t.1, cap_dst x k q.0)
 
-  cap_some : (k : ℕ) → k < P.size → hi2 (shape_of B) k < low_own P k → hi2 (shape_of B) k < k → (x : ℕ) × Elem x (B.own k) × (B.dst x ≡ hi2 (shape_of B) k)
+  cap_some :
+      (k : ℕ) → k < P.size → hi2 (shape_of B) k < low_own P k → hi2 (shape_of B) k < k → (x : ℕ) × Elem x (B.own k) × (B.dst x ≡ hi2 (shape_of B) k)
   cap_some k l a b =
       let t = and_from (ltb (low_second P k) (low_own P k)) (ltb (low_second P k) k) (lt-ltb (low_second P k) (low_own P k) a) (lt-ltb (low_second P k) k b) in
       (P.many + k, subst (λ l. Elem (P.many + k) l) (sym (cond-true (capped P k) ((P.many + k) ∷ P.links k) (P.links k) t)) (inl refl), cap_dst (P.many + k) k refl)
@@ -126,6 +105,9 @@ module _ (P : Searched) (good : Upward P) where
         cap_is = cap_is;
         cap_some = cap_some;
       }
+
+  pub law : ByMethod (shape_of B)
+  law = (built B ready).by_method
 
 pub searched_stands : SearchedStands
 searched_stands P good d =

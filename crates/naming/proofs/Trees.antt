@@ -1,6 +1,7 @@
 -- Subtrees: of two numbers above a third one is above the other.
-use Rattle.std.proofs.Common.{◌≡◌, ℕ, zero, suc, ◌<◌, ◌≤◌, true, eqb, ◌≢◌, ◌⊎◌, sym, refl, ap, ◌∙◌, subst, inl, inr, arith}
-use Rattle.std.proofs.lemmas.Bool.{cases_eq, cases_lt, eq-eqb, eqb-true, or_cases, or_left, or_right}
+use Rattle.std.proofs.Common.{◌≡◌, ℕ, zero, suc, ◌<◌, ◌≤◌, true, eqb, ◌≢◌, ◌⊎◌, ap, ◌∙◌, subst, inl, inr, arith}
+use Rattle.std.proofs.lemmas.Bool.Decides.{nat_tests}
+use Rattle.std.proofs.lemmas.Bool.{cases_eq, or_right}
 use Rattle.naming.specs.Words.{Elem}
 use Rattle.naming.specs.Names.{Shape, Treelike}
 
@@ -10,69 +11,49 @@ module _ {X : Type 0} (S : Shape X) (tree : Treelike S) where
 
   -- v is t, or the parent of v is below t
   pub parted : (t v : ℕ) → v < S.size → Sub t v → (v ≡ t) ⊎ ((0 < v) × Sub t (S.parent v))
-  parted t v l s = pick (cases_eq v 0)
-    where
-      more : 0 < v → (eqb v t ≡ true) ⊎ (S.sub t (S.parent v) ≡ true) → (v ≡ t) ⊎ ((0 < v) × Sub t (S.parent v))
-      more p (inl e) = inl (eqb-true v t e)
-      more p (inr q) = inr (p, q)
-
-      pick : (v ≡ 0) ⊎ (v ≡ 0 → ⊥) → (v ≡ t) ⊎ ((0 < v) × Sub t (S.parent v))
-      pick (inl e) = inl (e ∙ eqb-true 0 t (sym (tree.sub_zero t) ∙ ap (S.sub t) (sym e) ∙ s))
-      pick (inr d) =
-          let p : 0 < v = omega arith in
-          more p (or_cases (eqb v t) (S.sub t (S.parent v)) (sym (tree.sub_more t v p l) ∙ s))
+  parted t v l s =
+      let root = tree.sub_zero t in
+      let more = tree.sub_more t v in
+      grind (arith, nat_tests, cases_eq v 0)
 
   pub sub_self : (v : ℕ) → v < S.size → Sub v v
-  sub_self v l = pick (cases_eq v 0)
-    where
-      pick : (v ≡ 0) ⊎ (v ≡ 0 → ⊥) → Sub v v
-      pick (inl e) = ap (S.sub v) e ∙ tree.sub_zero v ∙ eq-eqb 0 v (sym e)
-      pick (inr d) = tree.sub_more v v (omega arith) l ∙ or_left (eqb v v) (S.sub v (S.parent v)) (eq-eqb v v refl)
+  sub_self v l =
+      let root = tree.sub_zero v in
+      let more = tree.sub_more v v in
+      grind (arith, nat_tests, cases_eq v 0)
 
   pub sub_down : (t v : ℕ) → 0 < v → v < S.size → Sub t (S.parent v) → Sub t v
   sub_down t v p l s = tree.sub_more t v p l ∙ or_right (eqb v t) (S.sub t (S.parent v)) s
 
   sub_le' : (m t v : ℕ) → v < m → v < S.size → Sub t v → t ≤ v
   sub_le' zero t v h l s = absurd (omega arith)
-  sub_le' (suc m) t v h l s = pick (parted t v l s) (sub_le' m t (S.parent v))
-    where
-      pick : (v ≡ t) ⊎ ((0 < v) × Sub t (S.parent v)) → (S.parent v < m → S.parent v < S.size → Sub t (S.parent v) → t ≤ S.parent v) → t ≤ v
-      pick (inl e) next = omega arith
-      pick (inr q) next =
-          let u = tree.up v q.0 l in
-          let r = next (omega arith) (omega arith) q.1 in
-          omega arith
+  sub_le' (suc m) t v h l s =
+      let next = sub_le' m t (S.parent v) in
+      let u = tree.up v in
+      grind (arith, parted t v l s)
 
   pub sub_le : (t v : ℕ) → v < S.size → Sub t v → t ≤ v
   sub_le t v = sub_le' (suc v) t v (omega arith)
 
   sub_trans' : (m a b v : ℕ) → v < m → v < S.size → Sub a b → Sub b v → Sub a v
   sub_trans' zero a b v h l s t = absurd (omega arith)
-  sub_trans' (suc m) a b v h l s t = pick (parted b v l t) (sub_trans' m a b (S.parent v))
-    where
-      pick : (v ≡ b) ⊎ ((0 < v) × Sub b (S.parent v)) → (S.parent v < m → S.parent v < S.size → Sub a b → Sub b (S.parent v) → Sub a (S.parent v)) → Sub a v
-      pick (inl e) next = ap (S.sub a) e ∙ s
-      pick (inr q) next =
-          let u = tree.up v q.0 l in
-          sub_down a v q.0 l (next (omega arith) (omega arith) s q.1)
+  sub_trans' (suc m) a b v h l s t =
+      let next = sub_trans' m a b (S.parent v) in
+      let down = sub_down a v in
+      let u = tree.up v in
+      grind (arith, parted b v l t)
 
   pub sub_trans : (a b v : ℕ) → v < S.size → Sub a b → Sub b v → Sub a v
   sub_trans a b v = sub_trans' (suc v) a b v (omega arith)
 
   sub_chain' : (m a b v : ℕ) → v < m → v < S.size → Sub a v → Sub b v → a ≤ b → Sub a b
   sub_chain' zero a b v h l s t o = absurd (omega arith)
-  sub_chain' (suc m) a b v h l s t o = pick (parted a v l s) (parted b v l t) (sub_chain' m a b (S.parent v))
-    where
-      pick : (v ≡ a) ⊎ ((0 < v) × Sub a (S.parent v)) → (v ≡ b) ⊎ ((0 < v) × Sub b (S.parent v)) →
-          (S.parent v < m → S.parent v < S.size → Sub a (S.parent v) → Sub b (S.parent v) → a ≤ b → Sub a b) → Sub a b
-      pick p (inl e) next = ap (S.sub a) (sym e) ∙ s
-      pick (inl e) (inr q) next =
-          let le = sub_le b v l t in
-          let f : a ≡ b = omega arith in
-          subst (λ (i : ℕ). Sub i b) (sym f) (sub_self b (omega arith))
-      pick (inr p) (inr q) next =
-          let u = tree.up v p.0 l in
-          next (omega arith) (omega arith) p.1 q.1 o
+  sub_chain' (suc m) a b v h l s t o =
+      let next = sub_chain' m a b (S.parent v) in
+      let u = tree.up v in
+      let le = sub_le b v l t in
+      let self = sub_self b in
+      grind (arith, parted a v l s, parted b v l t)
 
   -- two numbers above v: the lower number is above the other
   pub sub_chain : (a b v : ℕ) → v < S.size → Sub a v → Sub b v → a ≤ b → Sub a b
@@ -86,13 +67,7 @@ module _ {X : Type 0} (S : Shape X) (tree : Treelike S) where
 
   -- a number above the child c and below c is above its parent
   pub over_kid : (t z c : ℕ) → z < S.size → Elem c (S.kids z) → Sub t c → t < c → Sub t z
-  over_kid t z c l m s h =
-      let k = tree.kid z c l m in
-      pick k (parted t c k.1 s)
-    where
-      pick : (0 < c) × (c < S.size) × (S.parent c ≡ z) → (c ≡ t) ⊎ ((0 < c) × Sub t (S.parent c)) → Sub t z
-      pick k (inl e) = absurd (omega arith)
-      pick k (inr q) = ap (S.sub t) (sym k.2) ∙ q.1
+  over_kid t z c l m s h = let k = tree.kid z c l m in grind (arith, parted t c k.1 s)
 
   -- the subtrees of two children have nothing in common
   kids_apart' : (z c d v : ℕ) → z < S.size → v < S.size → Elem c (S.kids z) → Elem d (S.kids z) → Sub c v → Sub d v → c < d → ⊥
@@ -103,12 +78,10 @@ module _ {X : Type 0} (S : Shape X) (tree : Treelike S) where
       omega (arith, k.0)
 
   pub kids_apart : (z c d v : ℕ) → z < S.size → v < S.size → Elem c (S.kids z) → Elem d (S.kids z) → Sub c v → Sub d v → c ≡ d
-  kids_apart z c d v l lv m q s t = pick (cases_lt c d) (cases_lt d c)
-    where
-      pick : (c < d) ⊎ (d ≤ c) → (d < c) ⊎ (c ≤ d) → c ≡ d
-      pick (inl h) r = absurd (kids_apart' z c d v l lv m q s t h)
-      pick (inr h) (inl g) = absurd (kids_apart' z d c v l lv q m t s g)
-      pick (inr h) (inr g) = omega arith
+  kids_apart z c d v l lv m q s t =
+      let a = kids_apart' z c d v l lv m q s t in
+      let b = kids_apart' z d c v l lv q m t s in
+      omega arith
 
   kid_towards' : (m z v : ℕ) → v < m → v < S.size → Sub z v → v ≢ z → (c : ℕ) × Elem c (S.kids z) × Sub c v
   kid_towards' zero z v h l s d = absurd (omega arith)

@@ -1,7 +1,8 @@
 -- The turns of the falling loop.
 use Rattle.std.proofs.Common.{◌≡◌, ℕ, zero, suc, ◌+◌, ◌-◌, ◌<◌, ◌≤◌, min, max, Bool, eqb, ltb, ◌⊎◌, ◌↔◌, List, [], ◌∷◌, ◌++◌, length, filter, sym, refl, ap, ◌∙◌, subst, ap₂, inl, inr, arith, length-append}
+use Rattle.std.proofs.lemmas.Bool.Decides.{nat_tests}
 use Rattle.std.proofs.lemmas.List.Elements.{filter-append}
-use Rattle.std.proofs.lemmas.Bool.{cases_eq, ltb-true, lt-ltb, eq-eqb, cond-true}
+use Rattle.std.proofs.lemmas.Bool.{cases_eq, ltb-true, lt-ltb}
 use Rattle.naming.specs.Words.{Elem, Once, flat, low, second}
 use Rattle.naming.specs.Names.{ByMethod, Carries, ending_at}
 use Rattle.naming.specs.Built.{Base, kids_from, kids_of, hi_of, shape_of, Ready, Built}
@@ -14,17 +15,12 @@ use Rattle.naming.proofs.Built.{built, kids_skip}
 pub numbers_in : (m k j : ℕ) → Elem j (numbers m k) → (k ≤ j) × (j < k + m)
 unfolding numbers
 numbers_in zero k j e = absurd e
-numbers_in (suc m) k j (inl e) = (omega arith, omega arith)
-numbers_in (suc m) k j (inr q) = let r = numbers_in m (suc k) j q in (omega (arith, r.0), omega (arith, r.1))
+numbers_in (suc m) k j e = grind (arith, numbers_in m (suc k) j)
 
 pub in_numbers : (m k j : ℕ) → k ≤ j → j < k + m → Elem j (numbers m k)
 unfolding numbers
 in_numbers zero k j a b = absurd (omega arith)
-in_numbers (suc m) k j a b = pick (cases_eq j k) (in_numbers m (suc k) j)
-  where
-    pick : (j ≡ k) ⊎ (j ≡ k → ⊥) → (suc k ≤ j → j < suc k + m → Elem j (numbers m (suc k))) → Elem j (numbers (suc m) k)
-    pick (inl e) next = inl e
-    pick (inr d) next = inr (next (omega arith) (omega arith))
+in_numbers (suc m) k j a b = grind (arith, in_numbers m (suc k) j, cases_eq j k)
 
 pub numbers_once : (m k : ℕ) → Once (numbers m k)
 unfolding numbers
@@ -45,8 +41,7 @@ kids_none parent m k p e = ap (λ (i : ℕ). kids_from parent i k p) e
 
 pub kids_more : (parent : ℕ → ℕ) (m k : ℕ) → kids_from parent (suc m) k (parent k) ≡ k ∷ kids_from parent m (suc k) (parent k)
 unfolding kids_from
-kids_more parent m k =
-    cond-true (eqb (parent k) (parent k)) (k ∷ kids_from parent m (suc k) (parent k)) (kids_from parent m (suc k) (parent k)) (eq-eqb (parent k) (parent k) refl)
+kids_more parent m k = grind (arith, nat_tests)
 
 module _ {X : Type 0} (B : Base X) (ready : Ready B) where
   all : Built X B
@@ -106,14 +101,8 @@ module _ {X : Type 0} (B : Base X) (ready : Ready B) where
         ends_is = ends_is;
       }
     where
-      m : ℕ
-      m = B.size - suc v
-
       one : B.size - v ≡ suc (B.size - suc v)
       one = omega arith
-
-      u : ℕ
-      u = B.parent v
 
       up : B.parent v < v
       up = ready.up v z l
@@ -134,7 +123,8 @@ module _ {X : Type 0} (B : Base X) (ready : Ready B) where
           sym (filter-append (goes (B.parent v)) (list_of B v) (flat (list_of B) (sofar B (suc v) (B.parent v)))) ∙
           ap (λ i. filter (goes (B.parent v)) (flat (list_of B) i)) (sym with_v)
 
-      items_is : (p : ℕ) → p < v → (B.parent v ≡ p) ⊎ (B.parent v ≡ p → ⊥) → filter (goes p) (t.items p) ≡ filter (goes p) (flat (list_of B) (sofar B v p))
+      items_is :
+          (p : ℕ) → p < v → (B.parent v ≡ p) ⊎ (B.parent v ≡ p → ⊥) → filter (goes p) (t.items p) ≡ filter (goes p) (flat (list_of B) (sofar B v p))
       items_is p h (inl e) = subst (λ (i : ℕ). filter (goes i) (t.items i) ≡ filter (goes i) (flat (list_of B) (sofar B v i))) e joined
       items_is p h (inr d) =
           ap (filter (goes p)) (j.items_rest p h d) ∙ so.items_is p (omega arith) ∙ ap (λ i. filter (goes p) (flat (list_of B) i)) (sym (without_v p d))

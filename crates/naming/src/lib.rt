@@ -15,113 +15,81 @@ ghost use Rattle.naming.specs.Bridge.{BridgeStands, ExampleStands};
 ghost use Rattle.naming.specs.Caps.{CapToItself};
 
 // Two links share a class exactly when they have the same name.
-pub fn names_tell_classes() -> u8
+pub fn names_tell_classes()
     ensures { NamesTellClasses }
-{
-    0
-}
+{}
 
 // Two links of a spanning tree share a class exactly when they have the same brackets, and a bracket shares with a tree link exactly when it is its only one.
-pub fn brackets_tell_classes() -> u8
+pub fn brackets_tell_classes()
     ensures { BracketsTell }
-{
-    0
-}
+{}
 
 // Two tree links have the same top and length exactly when they have the same brackets.
-pub fn names_tell_brackets() -> u8
+pub fn names_tell_brackets()
     ensures { NamesTell }
-{
-    0
-}
+{}
 
 // Names tell which of the links outside the tree cross a subtree.
-pub fn names_tell_crossings() -> u8
+pub fn names_tell_crossings()
     ensures { NamesCrossStands }
-{
-    0
-}
+{}
 
 // A list may keep items that have ended, if they are passed over at its top and not counted.
-pub fn ended_items_may_stay() -> u8
+pub fn ended_items_may_stay()
     ensures { CarriedTell }
-{
-    0
-}
+{}
 
 // The lists, lowest numbers and subtrees that are computed from parents and own items are those of the method.
-pub fn lists_are_built() -> u8
+pub fn lists_are_built()
     ensures { BuildStands }
-{
-    0
-}
+{}
 
 // Caps can be numbered behind the links.
-pub fn caps_are_numbered() -> u8
+pub fn caps_are_numbered()
     ensures { SearchedStands }
-{
-    0
-}
+{}
 
 // A falling loop over the numbers that adds each into its parent builds the lists.
-pub fn turns_stand() -> u8
+pub fn turns_stand()
     ensures { TurnsStand }
-{
-    0
-}
+{}
 
 // No list gets longer than there are links and numbers together, nor do the lists of the children of one number.
-pub fn lists_are_bounded() -> u8
+pub fn lists_are_bounded()
     ensures { ListsBounded }
-{
-    0
-}
+{}
 
 // A depth-first tree of all steps of the closed plan is a search as the method asks.
-pub fn trees_are_searches() -> u8
+pub fn trees_are_searches()
     ensures { DepthFirstNumbered }
-{
-    0
-}
+{}
 
 // Back links that end at a number can be counted beforehand, caps as they are made.
-pub fn ends_are_counted() -> u8
+pub fn ends_are_counted()
     ensures { EndsCounted }
-{
-    0
-}
+{}
 
 // Every tree link of a sound plan has a bracket.
-pub fn tree_links_have_brackets() -> u8
+pub fn tree_links_have_brackets()
     ensures { TreeLinksBracketed }
-{
-    0
-}
+{}
 
 // One link stands for each name: equal names come one after the other, as the lists with one top get no longer.
-pub fn links_stand_for_names() -> u8
+pub fn links_stand_for_names()
     ensures { FirstsStand }
-{
-    0
-}
+{}
 
 // A link between a number and one above it crosses a subtree exactly when it leads out of it to above its root.
-pub fn subtrees_are_crossed() -> u8
+pub fn subtrees_are_crossed()
     ensures { BridgeStands }
-{
-    0
-}
+{}
 
 // With a cap from a step to itself the names would part two links of one class.
-pub fn caps_never_end_where_they_begin() -> u8
+pub fn caps_never_end_where_they_begin()
     ensures { CapToItself }
-{
-    0
-}
+{}
 
 // A tree of five numbers with a cap.
-pub fn example_stands() -> u8
+pub fn example_stands()
     ensures { ExampleStands }
-{
-    0
-}
+{}

@@ -1,27 +1,28 @@
 -- Takes and give-backs by computing, from the definition of clashing.
-use Rattle.std.proofs.Common.{◌≡◌, ℕ, zero, suc, ◌<◌, ◌≤◌, Bool, true, false, cond, not, ◌&&◌, ◌||◌, eqb, ltb, leb, ◌⊎◌, List, [], ◌∷◌, length, Some, None, Option, sym, refl, ap, ◌∙◌, inl, inr, arith}
+use Rattle.std.proofs.Common.{◌≡◌, ℕ, zero, suc, ◌<◌, ◌≤◌, Bool, true, false, cond, not, ◌&&◌, ◌||◌, eqb, ltb, leb, ◌⊎◌, List, [], ◌∷◌, length, Some, None, Option, refl, inl, inr, arith, Decides}
+use Rattle.std.proofs.lemmas.Option.{none-some}
+use Rattle.std.proofs.lemmas.Bool.Decides.{Decides-and, nat_tests}
 use mathlib.Core.Logic.{∥∥₁_elim}
 use mathlib.Core.Bool.{Bool-set}
-use Rattle.std.proofs.lemmas.Bool.{cases_Bool, both_ways, and_parts, and_from, or_cases, not-true, not-false, not_from_false, eqb-true, ltb-true, leb-true, false≢true, true≢false}
+use Rattle.std.proofs.lemmas.Bool.{cases_Bool, both_ways, and_parts, and_from, or_cases, not-true, not-false, not_from_false, eqb-true, ltb-true, false≢true, true≢false, false_from_ne_true}
 use Rattle.model.specs.Meaning.{Graph, Meaning}
 use Rattle.model.specs.Walks.{Sound}
 use Rattle.model.specs.Parts.{Part, In, Proper, Clash}
 use Rattle.model.specs.Listing.{Row, row, Listing}
-use Rattle.model.specs.History.{ok, refused, Event, showing, restarting, finding, taking, giving, rejecting, History, slip, ended, is_for, holder, Out, Blocks, Right, Answered}
+use Rattle.model.specs.History.{ok, refused, Event, showing, restarting, finding, taking, giving, rejecting, History, slip, ended, is_for, holder, Blocks, Right, Answered}
 use Rattle.theory.specs.Tests.{each_below}
 use Rattle.theory.proofs.Insides.{step}
 use Rattle.theory.proofs.Unique.{proper}
-use Rattle.theory.proofs.Kept.{none_some}
-use Rattle.theory.proofs.Tells.{Tells, t_no, t_and, each_at}
+use Rattle.theory.proofs.Tells.{each_at}
 use Rattle.theory.proofs.Parts.{inb, t_in}
 
 unfoldable pub is_some : Option ℕ → Bool
 is_some None = false
 is_some (Some h) = true
 
-t_some : (o : Option ℕ) → Tells (is_some o) ((h : ℕ) × (o ≡ Some h))
+t_some : (o : Option ℕ) → Decides (is_some o) ((h : ℕ) × (o ≡ Some h))
 unfolding is_some
-t_some None = (λ e. absurd (false≢true e), λ p. absurd (none_some p.0 p.1))
+t_some None = grind arith
 t_some (Some h) = (λ e. (h, refl), λ p. refl)
 
 unfoldable pub has_slip : Option (ℕ × ℕ) → Bool
@@ -60,15 +61,15 @@ answeredb g rows (e ∷ es) = rightb g rows es e && answeredb g rows es
 fails : (f : ℕ → Bool) (n : ℕ) → each_below f n ≡ false → (k : ℕ) × (k < n) × (f k ≡ false)
 unfolding each_below
 fails f zero e = absurd (true≢false e)
-fails f (suc n) e = pick (cases_Bool (f n)) (λ d. fails f n d)
+fails f (suc n) e = pick (cases_Bool (f n)) (fails f n)
   where
     pick : (f n ≡ true) ⊎ (f n ≡ false) → (each_below f n ≡ false → (k : ℕ) × (k < n) × (f k ≡ false)) → (k : ℕ) × (k < suc n) × (f k ≡ false)
     pick (inr d) more = (n, omega arith, d)
-    pick (inl d) more = let r = more (sym (ap (λ (b : Bool). b && each_below f n) d) ∙ e) in (r.0, omega (arith, r.1), r.2)
+    pick (inl d) more = let r = more (rw d at e) in (r.0, omega (arith, r.1), r.2)
 
 -- only rows are out
 out_row : (g : Graph) (rows : List Row) (es : History) → Answered g rows es → (j h : ℕ) → holder es j ≡ Some h → j < length rows
-out_row g rows [] a j h e = absurd (none_some h e)
+out_row g rows [] a j h e = absurd (none-some h e)
 out_row g rows (showing r ∷ es) a j h e = out_row g rows es a.1 j h e
 out_row g rows (restarting ∷ es) a j h e = out_row g rows es a.1 j h e
 out_row g rows (finding s r ∷ es) a j h e = out_row g rows es a.1 j h e
@@ -81,7 +82,7 @@ out_row g rows (taking i k (refused n p) ∷ es) a j h e = out_row g rows es a.1
 out_row g rows (giving k (ok u) ∷ es) a j h e = go (is_for (slip es k) j) e (out_row g rows es a.1 j h)
   where
     go : (b : Bool) → cond b None (holder es j) ≡ Some h → (holder es j ≡ Some h → j < length rows) → j < length rows
-    go true f more = absurd (none_some h f)
+    go true f more = absurd (none-some h f)
     go false f more = more f
 out_row g rows (giving k (refused n p) ∷ es) a j h e = out_row g rows es a.1 j h e
 out_row g rows (rejecting i k n p ∷ es) a j h e = out_row g rows es a.1 j h e
@@ -93,7 +94,7 @@ module _ (μ : Meaning) (sound : Sound μ.graph) (rows : List Row) (L : Listing 
   fit : (i : ℕ) → i < length rows → Proper μ.graph (row rows i).part
   fit = proper μ sound rows L
 
-  t_clash : (p q : Part) → Proper μ.graph p → Proper μ.graph q → Tells (clashb μ.graph p q) (Clash μ.graph p q)
+  t_clash : (p q : Part) → Proper μ.graph p → Proper μ.graph q → Decides (clashb μ.graph p q) (Clash μ.graph p q)
   unfolding clashb
   t_clash p q cp cq = (there, back)
     where
@@ -107,7 +108,7 @@ module _ (μ : Meaning) (sound : Sound μ.graph) (rows : List Row) (L : Listing 
           ∣ (s.0, (t_in μ.graph sound p cp s.0).0 h.0, (t_in μ.graph sound q cq s.0).0 h.1) ∣₁
 
       back : Clash μ.graph p q → not (each_below f μ.graph.steps) ≡ true
-      back c = ∥∥₁_elim c (Bool-set (not (each_below f μ.graph.steps)) true) (λ s. not_from_false (each_below f μ.graph.steps) (t_no (each_below f μ.graph.steps) (each_below f μ.graph.steps ≡ true) (λ e. e, λ e. e) (clear s)))
+      back c = ∥∥₁_elim c (Bool-set (not (each_below f μ.graph.steps)) true) (λ s. not_from_false (each_below f μ.graph.steps) (false_from_ne_true (each_below f μ.graph.steps) (clear s)))
         where
           clear : (s : ℕ) × In μ.graph p s × In μ.graph q s → each_below f μ.graph.steps ≡ true → ⊥
           clear s e =
@@ -115,14 +116,16 @@ module _ (μ : Meaning) (sound : Sound μ.graph) (rows : List Row) (L : Listing 
               both_ways both (not-true both (each_at f μ.graph.steps e s.0 (step μ.graph sound p cp s.0 s.1)))
               (and_from (inb μ.graph p s.0) (inb μ.graph q s.0) ((t_in μ.graph sound p cp s.0).1 s.1) ((t_in μ.graph sound q cq s.0).1 s.2))
 
-  t_blocks : (es : History) (i j : ℕ) → i < length rows → j < length rows → Tells (blocksb μ.graph rows es i j) (Blocks μ.graph rows es i j)
+  t_blocks : (es : History) (i j : ℕ) → i < length rows → j < length rows → Decides (blocksb μ.graph rows es i j) (Blocks μ.graph rows es i j)
   unfolding blocksb
   t_blocks es i j li lj =
-      t_and (is_some (holder es j)) (clashb μ.graph (row rows i).part (row rows j).part) (Out es j) (Clash μ.graph (row rows i).part (row rows j).part)
+      Decides-and (is_some (holder es j)) (clashb μ.graph (row rows i).part (row rows j).part)
       (t_some (holder es j)) (t_clash (row rows i).part (row rows j).part (fit i li) (fit j lj))
 
   -- no row below m blocks row i
-  none_by : (es : History) (i m : ℕ) → i < length rows → m ≤ length rows → each_below (λ j. not (blocksb μ.graph rows es i j)) m ≡ true → (j : ℕ) → j < m → Blocks μ.graph rows es i j → ⊥
+  none_by :
+      (es : History) (i m : ℕ) → i < length rows → m ≤ length rows → each_below (λ j. not (blocksb μ.graph rows es i j)) m ≡ true → (j : ℕ) → j < m →
+      Blocks μ.graph rows es i j → ⊥
   none_by es i m li lm e j lj b =
       both_ways (blocksb μ.graph rows es i j) (not-true (blocksb μ.graph rows es i j) (each_at (λ j. not (blocksb μ.graph rows es i j)) m e j lj)) ((t_blocks es i j li (omega arith)).1 b)
 
@@ -137,20 +140,11 @@ module _ (μ : Meaning) (sound : Sound μ.graph) (rows : List Row) (L : Listing 
       (li, λ j b. none_by es i (length rows) li (omega arith) q.1 j (out_row μ.graph rows es a j b.0.0 b.0.1) b)
   right_by es a (taking i h (refused n p)) e = pick (or_cases _ _ e)
     where
-      no_row : Bool
-      no_row = leb (length rows) i && (eqb n 61 && eqb p i)
-
-      none_below : Bool
-      none_below = each_below (λ j. not (blocksb μ.graph rows es i j)) p
-
       pick : ((leb (length rows) i && (eqb n 61 && eqb p i)) ≡ true) ⊎
           ((ltb i (length rows) && (eqb n 62 && (ltb p (length rows) && (blocksb μ.graph rows es i p && each_below (λ j. not (blocksb μ.graph rows es i j)) p)))) ≡ true) →
           ((length rows ≤ i) × (n ≡ 61) × (p ≡ i)) ⊎
           ((i < length rows) × (n ≡ 62) × Blocks μ.graph rows es i p × ((j : ℕ) → j < p → Blocks μ.graph rows es i j → ⊥))
-      pick (inl q) =
-          let x = and_parts _ _ q in
-          let y = and_parts _ _ x.1 in
-          inl (leb-true (length rows) i x.0, eqb-true n 61 y.0, eqb-true p i y.1)
+      pick (inl q) = inl (grind (arith, nat_tests))
       pick (inr q) =
           let x = and_parts _ _ q in
           let y = and_parts _ _ x.1 in

@@ -1,6 +1,7 @@
 -- A list of rows that passes these tests is the listing.
 use Rattle.std.proofs.Common.{◌≡◌, ℕ, suc, ◌<◌, Bool, true, false, cond, not, ◌&&◌, ◌||◌, eqb, ltb, leb, ◌≢◌, ◌⊎◌, List, [], ◌∷◌, length, Some, None, Option, sym, refl, ap, ◌∙◌, subst, inl, inr, arith}
-use Rattle.std.proofs.lemmas.Bool.{cases_eq, both_ways, and_parts, or_cases, not-true, eqb-true, eq-eqb, eqb-false, ltb-true, leb-true, false≢true}
+use Rattle.std.proofs.lemmas.Bool.Decides.{nat_tests}
+use Rattle.std.proofs.lemmas.Bool.{cases_eq, and_parts, not-true, eqb-true, eq-eqb, eqb-false, ltb-true, leb-true, false≢true}
 use Rattle.model.specs.Meaning.{Graph, Meaning}
 use Rattle.model.specs.Walks.{Canonical, Sound}
 use Rattle.model.specs.Parts.{Part, whole, fragment, Proper, Holds}
@@ -59,8 +60,7 @@ listingb μ rows =
 
 none_is : (o : Option ℕ) → is_none o ≡ true → o ≡ None
 unfolding is_none
-none_is None e = refl
-none_is (Some i) e = absurd (false≢true e)
+none_is o e = grind arith
 
 is_parent : (o q : Option ℕ) → o ≡ q → same_parent o q ≡ true
 unfolding same_parent
@@ -70,24 +70,20 @@ is_parent o q e = subst (λ (x : Option ℕ). same_parent o x ≡ true) e (self 
     self None = refl
     self (Some i) = eq-eqb i i refl
 
--- one way of an `or`
-right : (b c : Bool) → (b || c) ≡ true → b ≡ false → c ≡ true
-right b c e n = pick (or_cases b c e)
-  where
-    pick : (b ≡ true) ⊎ (c ≡ true) → c ≡ true
-    pick (inl t) = absurd (both_ways b n t)
-    pick (inr t) = t
-
 imp : (b c : Bool) → (not b || c) ≡ true → b ≡ true → c ≡ true
-imp true c e t = right false c e refl
-imp false c e t = absurd (false≢true t)
+imp b c e t = grind arith
 
 unless : (i j : ℕ) (c : Bool) → (eqb i j || c) ≡ true → i ≢ j → c ≡ true
-unless i j c e n = pick (or_cases (eqb i j) c e)
-  where
-    pick : (eqb i j ≡ true) ⊎ (c ≡ true) → c ≡ true
-    pick (inl t) = absurd (n (eqb-true i j t))
-    pick (inr t) = t
+unless i j c e n = grind (arith, nat_tests)
+
+-- a test of pairs, where the first may bound the second
+each_at2 : (f : ℕ → ℕ → Bool) (n : ℕ) (m : ℕ → ℕ) → each_below (λ i. each_below (f i) (m i)) n ≡ true → (i j : ℕ) → i < n → j < m i → f i j ≡ true
+each_at2 f n m e i j li lj = each_at (f i) (m i) (each_at (λ i. each_below (f i) (m i)) n e i li) j lj
+
+nine :
+    (a b c d e f g h i : Bool) → (a && (b && (c && (d && (e && (f && (g && (h && i)))))))) ≡ true →
+    (a ≡ true) × (b ≡ true) × (c ≡ true) × (d ≡ true) × (e ≡ true) × (f ≡ true) × (g ≡ true) × (h ≡ true) × (i ≡ true)
+nine a b c d e f g h i t = grind arith
 
 module _ (μ : Meaning) (sound : Sound μ.graph) (rows : List Row) where
   abbrev g : Graph
@@ -113,9 +109,7 @@ module _ (μ : Meaning) (sound : Sound μ.graph) (rows : List Row) where
 
   rises : (p q : Part) → risesb p q ≡ true → (a b c d : ℕ) → p ≡ fragment a b → q ≡ fragment c d → a < c
   unfolding risesb
-  rises whole q e a b c d x y = let z : ◌≡◌ {A = ℕ} 0 1 = cc in absurd (omega arith)
-  rises (fragment a' b') whole e a b c d x y = let z : ◌≡◌ {A = ℕ} 0 1 = cc in absurd (omega arith)
-  rises (fragment a' b') (fragment c' d') e a b c d x y = let p : a' ≡ a = cc in let q : c' ≡ c = cc in omega (arith, ltb-true a' c' e)
+  rises p q e a b c d x y = grind (arith, nat_tests)
 
   module _ (covers : Covers g rows) where
     holds : (i j : ℕ) → i < n → j < n → hold g rows i j ≡ true → Holds g (part i) (part j)
@@ -143,41 +137,54 @@ module _ (μ : Meaning) (sound : Sound μ.graph) (rows : List Row) where
             holds = holds i j li l y.0;
             smallest = λ k lk d hk.
                 leb-true (row rows i).inside (row rows k).inside
-                (imp (hold g rows k j) (leb (row rows i).inside (row rows k).inside) (unless k j (not (hold g rows k j) || leb (row rows i).inside (row rows k).inside) (each_at f n y.1 k lk) d) (held k j lk l hk));
+                (imp (hold g rows k j) (leb (row rows i).inside (row rows k).inside)
+                (unless k j (not (hold g rows k j) || leb (row rows i).inside (row rows k).inside) (each_at f n y.1 k lk) d) (held k j lk l hk));
           },
         )
 
   pub listing_by : listingb μ rows ≡ true → Listing μ rows
   unfolding listingb
   listing_by e =
+      let t = nine _ _ _ _ _ _ _ _ _ e in
+      let first = and_parts _ _ t.0 in
+      let whole_first = and_parts _ _ first.1 in
+      let proper' = proper whole_first.0 t.1 in
+      let covers : Covers g rows = record { proper = proper'; listed = listed t.2 } in
       record {
-        some = ltb-true 0 n x1.0;
-        top = same_is (part 0) whole x2.0;
-        rootless = none_is (row rows 0).parent x2.1;
-        canonical = canonical;
-        listed = listed;
-        once = λ i j li lj q. eqb-true i j (imp (same (part i) (part j)) (eqb i j) (each_at (λ j. f4 i j) n (each_at (λ i. each_below (λ j. f4 i j) n) n a4.0 i li) j lj) (is_same (part i) (part j) q));
-        parents = λ j pos l. is_parent_of covers (row rows j).parent j l (unless j 0 (parentb g rows (row rows j).parent j) (each_at f5 n a5.0 j l) (λ q. omega arith));
-        counts = λ i l. (t_size g sound (part i) (proper i l) (row rows i).inside).0 (and_parts (eqb (size g (part i)) (row rows i).inside) (kindb μ rows (part i) (row rows i).kind) (each_at f6 n a6.0 i l)).0;
-        kinds = λ i l. kind_by μ sound rows covers (part i) (proper i l) (row rows i).kind (and_parts (eqb (size g (part i)) (row rows i).inside) (kindb μ rows (part i) (row rows i).kind) (each_at f6 n a6.0 i l)).1;
+        some = ltb-true 0 n first.0;
+        top = same_is (part 0) whole whole_first.0;
+        rootless = none_is (row rows 0).parent whole_first.1;
+        canonical = canonical t.1;
+        listed = listed t.2;
+        once = λ i j li lj q. eqb-true i j (imp (same (part i) (part j)) (eqb i j) (each_at2 f4 n (λ _. n) t.3 i j li lj) (is_same (part i) (part j) q));
+        parents = λ j pos l.
+            is_parent_of covers (row rows j).parent j l (unless j 0 (parentb g rows (row rows j).parent j) (each_at f5 n t.4 j l) (λ q. omega arith));
+        counts = λ i l. (t_size g sound (part i) (proper' i l) (row rows i).inside).0 (and_parts _ _ (each_at f6 n t.5 i l)).0;
+        kinds = λ i l. kind_by μ sound rows covers (part i) (proper' i l) (row rows i).kind (and_parts _ _ (each_at f6 n t.5 i l)).1;
         after = λ i j li lj b.
-            ltb-true i j (imp (hold g rows i j) (ltb i j) (unless i j (not (hold g rows i j) || ltb i j) (each_at (λ j. f7 i j) n (each_at (λ i. each_below (λ j. f7 i j) n) n a7.0 i li) j lj) b.0) (held covers i j li lj b.1));
+            ltb-true i j (imp (hold g rows i j) (ltb i j) (unless i j (not (hold g rows i j) || ltb i j) (each_at2 f7 n (λ _. n) t.6 i j li lj) b.0)
+            (held covers i j li lj b.1));
         directly = λ i j k lk lj l b. (
           λ q. omega arith,
           holds covers i k (omega arith) (omega arith)
-              (imp (hold g rows i j) (hold g rows i k) (each_at (λ i. f8 i j k) k (each_at (λ k. each_below (λ i. f8 i j k) k) j (each_at (λ j. each_below (λ k. each_below (λ i. f8 i j k) k) j) n a8.0 j l) k lj) i lk) (held covers i j (omega arith) l b.1)),
+              (imp (hold g rows i j) (hold g rows i k)
+              (each_at (λ i. f8 i j k) k (each_at2 (λ j k. each_below (λ i. f8 i j k) k) n (λ j. j) t.7 j k l lj) i lk) (held covers i j (omega arith) l b.1)),
         );
         rising = λ i j a b c d lt l q x y.
             rises (part i) (part j)
-            (imp (same_parent (row rows i).parent (row rows j).parent) (risesb (part i) (part j)) (each_at (λ i. f9 i j) j (each_at (λ j. each_below (λ i. f9 i j) j) n a8.1 j l) i lt) (is_parent (row rows i).parent (row rows j).parent q))
+            (imp (same_parent (row rows i).parent (row rows j).parent) (risesb (part i) (part j)) (each_at2 (λ j i. f9 i j) n (λ j. j) t.8 j i l lt)
+            (is_parent (row rows i).parent (row rows j).parent q))
             a b c d x y;
       }
     where
+      m : ℕ
+      m = length g.links
+
       f2 : ℕ → Bool
       f2 i = eqb i 0 || properb g (part i)
 
-      m : ℕ
-      m = length g.links
+      f3 : ℕ → ℕ → Bool
+      f3 a b = listedb g rows a b
 
       f4 : ℕ → ℕ → Bool
       f4 i j = not (same (part i) (part j)) || eqb i j
@@ -197,75 +204,15 @@ module _ (μ : Meaning) (sound : Sound μ.graph) (rows : List Row) where
       f9 : ℕ → ℕ → Bool
       f9 i j = not (same_parent (row rows i).parent (row rows j).parent) || risesb (part i) (part j)
 
-      t9 : Bool
-      t9 = each_below (λ j. each_below (λ i. f9 i j) j) n
+      canonical : each_below f2 n ≡ true → (i : ℕ) → 0 < i → i < n → (a : ℕ) × (b : ℕ) × (part i ≡ fragment a b) × Canonical g a b
+      canonical t i pos l = is_canonical (part i) (unless i 0 (properb g (part i)) (each_at f2 n t i l) (λ q. omega arith))
 
-      t8 : Bool
-      t8 = each_below (λ j. each_below (λ k. each_below (λ i. f8 i j k) k) j) n && t9
+      listed : each_below (λ a. each_below (f3 a) m) m ≡ true → (a b : ℕ) → Canonical g a b → (i : ℕ) × (i < n) × (part i ≡ fragment a b)
+      listed t a b c = is_listed a b c (each_at2 f3 m (λ _. m) t a b c.pair.leads.1 c.pair.leads.2)
 
-      t7 : Bool
-      t7 = each_below (λ i. each_below (λ j. f7 i j) n) n && t8
-
-      t6 : Bool
-      t6 = each_below f6 n && t7
-
-      t5 : Bool
-      t5 = each_below f5 n && t6
-
-      t4 : Bool
-      t4 = each_below (λ i. each_below (λ j. f4 i j) n) n && t5
-
-      t3 : Bool
-      t3 = each_below (λ a. each_below (λ b. listedb g rows a b) m) m && t4
-
-      t2 : Bool
-      t2 = each_below f2 n && t3
-
-      t1 : Bool
-      t1 = ltb 0 n && (same (part 0) whole && is_none (row rows 0).parent)
-
-      a1 : (t1 ≡ true) × (t2 ≡ true)
-      a1 = and_parts t1 t2 e
-
-      x1 : (ltb 0 n ≡ true) × ((same (part 0) whole && is_none (row rows 0).parent) ≡ true)
-      x1 = and_parts _ _ a1.0
-
-      x2 : (same (part 0) whole ≡ true) × (is_none (row rows 0).parent ≡ true)
-      x2 = and_parts _ _ x1.1
-
-      a2 : (each_below f2 n ≡ true) × (t3 ≡ true)
-      a2 = and_parts _ _ a1.1
-
-      a3 : (each_below (λ a. each_below (λ b. listedb g rows a b) m) m ≡ true) × (t4 ≡ true)
-      a3 = and_parts _ _ a2.1
-
-      a4 : (each_below (λ i. each_below (λ j. f4 i j) n) n ≡ true) × (t5 ≡ true)
-      a4 = and_parts _ _ a3.1
-
-      a5 : (each_below f5 n ≡ true) × (t6 ≡ true)
-      a5 = and_parts _ _ a4.1
-
-      a6 : (each_below f6 n ≡ true) × (t7 ≡ true)
-      a6 = and_parts _ _ a5.1
-
-      a7 : (each_below (λ i. each_below (λ j. f7 i j) n) n ≡ true) × (t8 ≡ true)
-      a7 = and_parts _ _ a6.1
-
-      a8 : (each_below (λ j. each_below (λ k. each_below (λ i. f8 i j k) k) j) n ≡ true) × (t9 ≡ true)
-      a8 = and_parts _ _ a7.1
-
-      canonical : (i : ℕ) → 0 < i → i < n → (a : ℕ) × (b : ℕ) × (part i ≡ fragment a b) × Canonical g a b
-      canonical i pos l = is_canonical (part i) (unless i 0 (properb g (part i)) (each_at f2 n a2.0 i l) (λ q. omega arith))
-
-      listed : (a b : ℕ) → Canonical g a b → (i : ℕ) × (i < n) × (part i ≡ fragment a b)
-      listed a b c = is_listed a b c (each_at (λ b. listedb g rows a b) m (each_at (λ a. each_below (λ b. listedb g rows a b) m) m a3.0 a c.pair.leads.1) b c.pair.leads.2)
-
-      proper : (i : ℕ) → i < n → Proper g (part i)
-      proper i l = pick (cases_eq i 0)
+      proper : same (part 0) whole ≡ true → each_below f2 n ≡ true → (i : ℕ) → i < n → Proper g (part i)
+      proper top t i l = pick (cases_eq i 0)
         where
           pick : (i ≡ 0) ⊎ (i ≡ 0 → ⊥) → Proper g (part i)
-          pick (inl q) = subst (Proper g) (sym (ap part q ∙ same_is (part 0) whole x2.0)) tt
-          pick (inr d) = let c = canonical i (omega arith) l in subst (Proper g) (sym c.2) c.3
-
-      covers : Covers g rows
-      covers = record { proper = proper; listed = listed }
+          pick (inl q) = subst (Proper g) (sym (ap part q ∙ same_is (part 0) whole top)) tt
+          pick (inr d) = let c = canonical t i (omega arith) l in subst (Proper g) (sym c.2) c.3

@@ -1,6 +1,8 @@
 -- A view that passes these tests is opened over its plan.
-use Rattle.std.proofs.Common.{◌≡◌, ℕ, zero, suc, ◌+◌, ◌<◌, ◌≤◌, Bool, true, false, not, ◌&&◌, ◌||◌, ltb, leb, ◌↔◌, List, length, get_or, Some, None, sym, refl, ◌∙◌, inl, inr, arith, lit<, lit≤}
-use Rattle.std.proofs.lemmas.Bool.{and_parts, ltb-true, lt-ltb, leb-true, false≢true}
+use Rattle.std.proofs.Common.{◌≡◌, ℕ, zero, suc, ◌+◌, ◌<◌, ◌≤◌, Bool, true, false, not, ◌&&◌, ◌||◌, ltb, leb, ◌↔◌, List, length, get_or, Some, None, sym, refl, ◌∙◌, inl, inr, arith, lit<, lit≤, Decides}
+use Rattle.std.proofs.lemmas.Option.{none-some}
+use Rattle.std.proofs.lemmas.Bool.Decides.{Decides-and, Decides-ltb}
+use Rattle.std.proofs.lemmas.Bool.{and_parts, ltb-true, leb-true}
 use Rattle.model.specs.Meaning.{Graph, Meaning}
 use Rattle.model.specs.Walks.{Sound}
 use Rattle.model.specs.Parts.{In, Proper, Holds}
@@ -9,8 +11,7 @@ use Rattle.model.specs.History.{ok, refused}
 use Rattle.theory.specs.Tests.{relax, sweep, rounds, reached, reach, each_below}
 use Rattle.theory.specs.Calls.{View, at_place, marked, mark, InRun, Meets, Run, opened, nexts, restarts, finds, takes, gives, rejects, Opened}
 use Rattle.theory.proofs.Unique.{proper}
-use Rattle.theory.proofs.Kept.{none_some}
-use Rattle.theory.proofs.Tells.{Tells, t_and, t_imp, t_le, each_at}
+use Rattle.theory.proofs.Tells.{t_imp, t_le, each_at}
 use Rattle.theory.proofs.Parts.{inb, holdsb, t_in, t_holds}
 use Rattle.samples_theory.specs.Samples.{plan5, rows5, book5, row5, history5, BookHappens}
 use Rattle.samples_theory.proofs.Sampled.{five}
@@ -21,17 +22,14 @@ agreeb false c = not c
 
 agree : (b c : Bool) → agreeb b c ≡ true → b ≡ c
 unfolding agreeb
-agree true true e = refl
-agree true false e = absurd (false≢true e)
-agree false true e = absurd (false≢true e)
-agree false false e = refl
+agree b c e = grind arith
 
 unfoldable runb : View → ℕ → ℕ → Bool
 runb v i j = leb i j && ltb j (i + get_or v.runs i 0)
 
-t_run : (v : View) (i j : ℕ) → Tells (runb v i j) (InRun v i j)
+t_run : (v : View) (i j : ℕ) → Decides (runb v i j) (InRun v i j)
 unfolding runb
-t_run v i j = t_and (leb i j) (ltb j (i + get_or v.runs i 0)) (i ≤ j) (j < i + get_or v.runs i 0) (t_le i j) (ltb-true j (i + get_or v.runs i 0), lt-ltb j (i + get_or v.runs i 0))
+t_run v i j = Decides-and (leb i j) (ltb j (i + get_or v.runs i 0)) (t_le i j) (Decides-ltb j (i + get_or v.runs i 0))
 
 unfoldable homeb : Graph → List Row → ℕ → ℕ → Bool
 homeb g rows s i = ltb i (length rows) && (inb g (row rows i).part s && each_below (λ j. not (inb g (row rows j).part s) || leb (row rows i).inside (row rows j).inside) (length rows))
@@ -40,7 +38,8 @@ module _ (μ : Meaning) (sound : Sound μ.graph) (v : View) (L : Listing μ v.ro
   fit : (i : ℕ) → i < length v.rows → Proper μ.graph (row v.rows i).part
   fit = proper μ sound v.rows L
 
-  runs_by : each_below (λ i. each_below (λ j. agreeb (runb v i j) (holdsb μ.graph (row v.rows i).part (row v.rows j).part)) (length v.rows)) (length v.rows) ≡ true →
+  runs_by :
+      each_below (λ i. each_below (λ j. agreeb (runb v i j) (holdsb μ.graph (row v.rows i).part (row v.rows j).part)) (length v.rows)) (length v.rows) ≡ true →
       (i j : ℕ) → i < length v.rows → j < length v.rows → (InRun v i j ↔ Holds μ.graph (row v.rows i).part (row v.rows j).part)
   runs_by e i j li lj =
       let f : ℕ → ℕ → Bool = λ i j. agreeb (runb v i j) (holdsb μ.graph (row v.rows i).part (row v.rows j).part) in
@@ -95,11 +94,11 @@ run5 h =
     (nexts None v4 (nexts None v4 (nexts (Some (3, row5 3)) v4 (nexts (Some (2, row5 2)) (at_place book5 3) (nexts (Some (1, row5 1)) v2 (nexts (Some (0, row5 0)) (at_place book5 1) opened
     (lit< tt, refl, refl)) (lit< tt, refl, refl)) (lit< tt, refl, refl)) (lit< tt, refl, refl)) (lit≤ tt, refl)) (lit≤ tt, refl))
     refl) (lit< tt, refl, refl)) (lit< tt, refl, refl)) (lit< tt, refl, refl)) (lit≤ tt, refl, refl, refl))
-    (lit< tt, λ j l m. none_some m.0.0 (sym (no_marks j) ∙ m.0.1), refl))
+    (lit< tt, λ j l m. none-some m.0.0 (sym (no_marks j) ∙ m.0.1), refl))
     (inr (lit< tt, refl, lit< tt, ((h, refl), inr (lit≤ tt, lit< tt)), first), refl))
     (inl (lit≤ tt, refl, refl), refl))
     (refl, refl) (refl, refl))
-    (none_some h, refl, refl, refl)
+    (none-some h, refl, refl, refl)
   where
     v2 : View
     v2 = at_place book5 2
@@ -111,7 +110,7 @@ run5 h =
     w = marked (at_place book5 2) 1 (Some h)
 
     first : (j : ℕ) → j < 1 → Meets (marked (at_place book5 2) 1 (Some h)) 2 j → ⊥
-    first zero l m = none_some m.0.0 m.0.1
+    first zero l m = none-some m.0.0 m.0.1
     first (suc j) l m = omega arith
 
 pub book_happens : BookHappens

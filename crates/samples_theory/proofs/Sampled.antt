@@ -1,6 +1,7 @@
 -- The samples, by computing.
-use Rattle.std.proofs.Common.{◌≡◌, ℕ, ◌<◌, ◌≤◌, Bool, true, not, ◌&&◌, eqb, ltb, leb, ◌⊎◌, List, [], ◌∷◌, length, get_or, refl, inl, inr}
-use Rattle.std.proofs.lemmas.Bool.{cases_lt, both_ways, and_parts, not-true, eqb-true, eqb-false, ltb-true, leb-true}
+use Rattle.std.proofs.Common.{◌≡◌, ℕ, ◌<◌, Bool, true, not, ◌&&◌, eqb, ltb, leb, List, [], ◌∷◌, length, get_or, refl, arith}
+use Rattle.std.proofs.lemmas.Bool.Decides.{nat_tests}
+use Rattle.std.proofs.lemmas.Bool.{both_ways, and_parts, not-true, ltb-true}
 use Rattle.model.specs.Meaning.{Graph, Meaning, Limits}
 use Rattle.model.specs.Walks.{closed, Share, ClassName, Sound}
 use Rattle.theory.specs.Tests.{relax, sweep, rounds, reached, reach, shareb, each_below}
@@ -23,12 +24,12 @@ class_by g sound l c ll e =
     let h = and_parts (ltb c (length g.links)) (shareb (closed g) g.steps c l && each_below f c) e in
     let q = and_parts (shareb (closed g) g.steps c l) (each_below f c) h.1 in
     let lc = ltb-true c (length g.links) h.0 in
-    record { is_link = lc; shares = (t_share g sound c l lc ll).0 q.0; smallest = λ k lk s. pick k lk s q.1 (cases_lt k c) }
+    record { is_link = lc; shares = (t_share g sound c l lc ll).0 q.0; smallest = λ k lk s. let less = none k lk s q.1 in omega arith }
   where
-    pick : (k : ℕ) → k < length g.links → Share (closed g) k l → each_below (λ k. not (shareb (closed g) g.steps k l)) c ≡ true → (k < c) ⊎ (c ≤ k) → c ≤ k
-    pick k lk s q (inr h) = h
-    pick k lk s q (inl h) =
-        absurd (both_ways (shareb (closed g) g.steps k l) (not-true (shareb (closed g) g.steps k l) (each_at (λ k. not (shareb (closed g) g.steps k l)) c q k h)) ((t_share g sound k l lk ll).1 s))
+    none : (k : ℕ) → k < length g.links → Share (closed g) k l → each_below (λ k. not (shareb (closed g) g.steps k l)) c ≡ true → k < c → ⊥
+    none k lk s q h =
+        both_ways (shareb (closed g) g.steps k l) (not-true (shareb (closed g) g.steps k l) (each_at (λ k. not (shareb (closed g) g.steps k l)) c q k h))
+        ((t_share g sound k l lk ll).1 s)
 
 -- limits, of a sound plan
 unfoldable pub limitsb : Meaning → Bool
@@ -39,21 +40,16 @@ limitsb μ =
 limits_by : (μ : Meaning) → Sound μ.graph → limitsb μ ≡ true → Limits μ
 unfolding limitsb
 limits_by μ sound e =
-    let a = and_parts _ _ e in
-    let b = and_parts _ _ a.1 in
-    let c = and_parts _ _ b.1 in
-    let d = and_parts _ _ c.1 in
-    let f = and_parts _ _ d.1 in
     record {
-      some_steps = leb-true 2 μ.graph.steps a.0;
-      few_steps = leb-true μ.graph.steps 1024 b.0;
-      some_links = leb-true 1 (length μ.graph.links) c.0;
-      few_links = leb-true (length μ.graph.links) 2048 d.0;
+      some_steps = grind (arith, nat_tests);
+      few_steps = grind (arith, nat_tests);
+      some_links = grind (arith, nat_tests);
+      few_links = grind (arith, nat_tests);
       ends_below = sound.within;
       first_below = sound.begins;
       last_below = sound.ends;
-      apart = eqb-false μ.graph.first μ.graph.last (not-true (eqb μ.graph.first μ.graph.last) f.0);
-      logic_each = eqb-true (length μ.logics) μ.graph.steps f.1;
+      apart = grind (arith, nat_tests);
+      logic_each = grind (arith, nat_tests);
     }
 
 -- the plan with its rows and classes, then the calls

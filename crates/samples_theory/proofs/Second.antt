@@ -1,18 +1,16 @@
 -- The second look, by computing.
-use Rattle.std.proofs.Common.{◌≡◌, ℕ, ◌<◌, Bool, true, false, ◌⊎◌, List, [], ◌∷◌, length, refl, inl, inr, arith, lit<, lit≤}
+use Rattle.std.proofs.Common.{◌≡◌, ℕ, ◌<◌, true, false, List, [], ◌∷◌, length, refl, inl, inr, arith, lit<, lit≤, Decides}
+use Rattle.std.proofs.lemmas.Bool.Decides.{not_from_Decides}
 use mathlib.Core.Logic.{∥∥₁_elim}
 use mathlib.Core.HLevel.{⊥_prop}
-use Rattle.std.proofs.lemmas.Bool.{both_ways}
 use Rattle.model.specs.Meaning.{Graph, head_of}
-use Rattle.model.specs.Walks.{Links, closed, Walks, Passes, Share, Leads, Canonical, Inside, Sound}
-use Rattle.model.specs.Parts.{fragment, Own}
+use Rattle.model.specs.Walks.{Links, closed, Walks, Passes, Share, Sound}
+use Rattle.model.specs.Parts.{fragment}
 use Rattle.theory.specs.Tests.{relax, sweep, rounds, reached, reach, shareb, each_below}
-use Rattle.theory.proofs.Walks.{Avoids, passes?}
-use Rattle.theory.proofs.Reach.{walk_reach}
+use Rattle.theory.proofs.Reach.{passes_by}
 use Rattle.theory.proofs.Decide.{share_decided}
 use Rattle.theory.proofs.Plans.{closed_within}
 use Rattle.theory.proofs.Unique.{kind_at, proper}
-use Rattle.theory.proofs.Tells.{Tells}
 use Rattle.theory.proofs.Parts.{leadsb, thirdb, canonicalb, inb, holdsb, size, t_leads, t_share, t_canonical, t_in}
 use Rattle.samples_theory.specs.Samples.{plan5, rows5, plan6, AllStand, of_one}
 use Rattle.samples_theory.specs.Second.{InsideNotDominance, plan4, PairNotCanonical, ClassesDiffer, BothAreNeeded, plan1, ReturnNamesNone, EqualEndsBranch, OwnIsMore, SoundnessRefuses, interleaved, ClassesInterleave, by_entry, deep, kinds, FurtherStand}
@@ -21,20 +19,10 @@ use Rattle.samples_theory.proofs.Listed.{is_none, properb, place_of, listedb, ho
 use Rattle.samples_theory.proofs.Calling.{is_some, has_slip, clashb, blocksb, rightb, answeredb}
 use Rattle.samples_theory.proofs.Sampled.{classb, class_by, limitsb, planb, sampleb, allb, all_by, five}
 
--- every walk passes a link that the test cannot go round
-passes_by : (g : Graph) → Sound g → (a u v : ℕ) → u < g.steps → reach g.links g.steps a u v ≡ false → (ks : List ℕ) → Walks g.links u ks v → Passes a ks
-passes_by g sound a u v l e ks w = pick (passes? a ks)
-  where
-    pick : Passes a ks ⊎ Avoids a ks → Passes a ks
-    pick (inl p) = p
-    pick (inr h) = absurd (both_ways (reach g.links g.steps a u v) e (walk_reach g.links a g.steps u v sound.within l (ks, w, h)))
-
 -- a link of the plan and one of the closed plan
-share_by : (g : Graph) → Sound g → (a b : ℕ) → a < length (closed g) → b < length (closed g) → Tells (shareb (closed g) g.steps a b) (Share (closed g) a b)
+share_by :
+    (g : Graph) → Sound g → (a b : ℕ) → a < length (closed g) → b < length (closed g) → Decides (shareb (closed g) g.steps a b) (Share (closed g) a b)
 share_by g sound a b la lb = share_decided (closed g) g.steps a b (closed_within g sound) la lb
-
-refuted : (b : Bool) (P : Type 0) → Tells b P → b ≡ false → P → ⊥
-refuted b P t e p = both_ways b e (t.1 p)
 
 sound4 : Sound plan4.graph
 unfolding soundb reach reached rounds sweep relax each_below
@@ -54,32 +42,32 @@ inside_not_dominance =
     let c = (t_canonical plan6.graph sound6 1 2).0 refl in
     record {
       canonical = c;
-      before = passes_by plan6.graph sound6 1 0 4 (lit< tt) refl;
-      behind = passes_by plan6.graph sound6 2 4 5 (lit< tt) refl;
-      outside = refuted (inb plan6.graph (fragment 1 2) 4) (Inside plan6.graph 1 2 4) (t_in plan6.graph sound6 (fragment 1 2) c 4) refl;
+      before = passes_by plan6.graph.links 1 6 0 4 sound6.within (lit< tt) refl;
+      behind = passes_by plan6.graph.links 2 6 4 5 sound6.within (lit< tt) refl;
+      outside = not_from_Decides (inb plan6.graph (fragment 1 2) 4) (t_in plan6.graph sound6 (fragment 1 2) c 4) refl;
     }
 
 pub pair_not_canonical : PairNotCanonical
 unfolding canonicalb leadsb thirdb shareb reach reached rounds sweep relax each_below
 pair_not_canonical = (
   record { shares = (t_share plan4.graph sound4 0 2 (lit< tt) (lit< tt)).0 refl; leads = (t_leads plan4.graph sound4 0 2).0 refl },
-  refuted (canonicalb plan4.graph 0 2) (Canonical plan4.graph 0 2) (t_canonical plan4.graph sound4 0 2) refl,
+  not_from_Decides (canonicalb plan4.graph 0 2) (t_canonical plan4.graph sound4 0 2) refl,
 )
 
 pub classes_differ : ClassesDiffer
 unfolding shareb reach reached rounds sweep relax
 classes_differ = (
   (t_share plan5.graph five.sound 1 2 (lit< tt) (lit< tt)).0 refl,
-  refuted (shareb (closed plan5.graph) 6 1 3) (Share (closed plan5.graph) 1 3) (t_share plan5.graph five.sound 1 3 (lit< tt) (lit< tt)) refl,
+  not_from_Decides (shareb (closed plan5.graph) 6 1 3) (t_share plan5.graph five.sound 1 3 (lit< tt) (lit< tt)) refl,
 )
 
 pub both_are_needed : BothAreNeeded
 unfolding leadsb shareb reach reached rounds sweep relax
 both_are_needed = (
   (t_leads plan6.graph sound6 1 3).0 refl,
-  refuted (shareb (closed plan6.graph) 6 1 3) (Share (closed plan6.graph) 1 3) (t_share plan6.graph sound6 1 3 (lit< tt) (lit< tt)) refl,
+  not_from_Decides (shareb (closed plan6.graph) 6 1 3) (t_share plan6.graph sound6 1 3 (lit< tt) (lit< tt)) refl,
   (t_share plan6.graph sound6 2 1 (lit< tt) (lit< tt)).0 refl,
-  refuted (leadsb plan6.graph 2 1) (Leads plan6.graph 2 1) (t_leads plan6.graph sound6 2 1) refl,
+  not_from_Decides (leadsb plan6.graph 2 1) (t_leads plan6.graph sound6 2 1) refl,
 )
 
 pub return_names_none : ReturnNamesNone
@@ -99,7 +87,7 @@ own_is_more =
     let c = (t_canonical plan5.graph five.sound 0 5).0 refl in (
       (t_own plan5.graph five.sound rows5 covers5 (fragment 0 5) c 1).0 refl,
       (t_in plan5.graph five.sound (fragment 0 5) c 2).0 refl,
-      refuted (ownb plan5.graph rows5 (fragment 0 5) 2) (Own plan5.graph (fragment 0 5) 2) (t_own plan5.graph five.sound rows5 covers5 (fragment 0 5) c 2) refl,
+      not_from_Decides (ownb plan5.graph rows5 (fragment 0 5) 2) (t_own plan5.graph five.sound rows5 covers5 (fragment 0 5) c 2) refl,
     )
 
 -- no walk passes a link past the last
@@ -111,11 +99,11 @@ past G u v (k ∷ ks) w (inr p) = past G (head_of G k) v ks w.2 p
 -- a step that no walk joins to first or to last
 unreached : (g : Graph) (s : ℕ) → s < g.steps → reach g.links g.steps (length g.links) g.first s ≡ false → Sound g → ⊥
 unreached g s l e sound =
-    ∥∥₁_elim (sound.between s l) ⊥_prop (λ p. past g.links g.first s p.0 p.2 (passes_by g sound (length g.links) g.first s sound.begins e p.0 p.2))
+    ∥∥₁_elim (sound.between s l) ⊥_prop (λ p. past g.links g.first s p.0 p.2 (passes_by g.links (length g.links) g.steps g.first s sound.within sound.begins e p.0 p.2))
 
 dead_end : (g : Graph) (s : ℕ) → s < g.steps → reach g.links g.steps (length g.links) s g.last ≡ false → Sound g → ⊥
 dead_end g s l e sound =
-    ∥∥₁_elim (sound.between s l) ⊥_prop (λ p. past g.links s g.last p.1 p.3 (passes_by g sound (length g.links) s g.last l e p.1 p.3))
+    ∥∥₁_elim (sound.between s l) ⊥_prop (λ p. past g.links s g.last p.1 p.3 (passes_by g.links (length g.links) g.steps s g.last sound.within l e p.1 p.3))
 
 pub soundness_refuses : SoundnessRefuses
 unfolding reach reached rounds sweep relax

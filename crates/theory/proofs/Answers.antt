@@ -1,5 +1,5 @@
 -- The law leaves one answer to each call.
-use Rattle.std.proofs.Common.{◌≡◌, ℕ, ◌<◌, ◌⊎◌, List, Some, None, Option, sym, refl, ap, ◌∙◌, inl, inr, arith}
+use Rattle.std.proofs.Common.{◌≡◌, ℕ, ◌⊎◌, List, Some, None, Option, sym, refl, ap, ◌∙◌, inl, inr, arith}
 use Rattle.std.proofs.lemmas.Bool.{cases_order}
 use Rattle.model.specs.Meaning.{Graph, Meaning}
 use Rattle.model.specs.Walks.{Sound}
@@ -11,7 +11,8 @@ use Rattle.theory.proofs.Insides.{step, nest}
 use Rattle.theory.proofs.Counting.{exactly_all}
 use Rattle.theory.proofs.Unique.{proper, both}
 
-next_one : (g : Graph) (rows : List Row) (es : History) (r q : Option (ℕ × Row)) → Right g rows es (showing r) → Right g rows es (showing q) → r ≡ q
+next_one :
+    (g : Graph) (rows : List Row) (es : History) (r q : Option (ℕ × Row)) → Right g rows es (showing r) → Right g rows es (showing q) → r ≡ q
 next_one g rows es None None x y = refl
 next_one g rows es None (Some b) x y = absurd (omega (arith, x.0, y.0, y.1))
 next_one g rows es (Some a) None x y = absurd (omega (arith, y.0, x.0, x.1))
@@ -20,23 +21,17 @@ next_one g rows es (Some a) (Some b) x y =
     let f : a.1 ≡ b.1 = x.2 ∙ ap (row rows) e ∙ sym y.2 in
     λ i. Some (e i, f i)
 
-take_one : (g : Graph) (rows : List Row) (es : History) (i h : ℕ) (r q : Answer (Unit {0})) → Right g rows es (taking i h r) → Right g rows es (taking i h q) → r ≡ q
+take_one :
+    (g : Graph) (rows : List Row) (es : History) (i h : ℕ) (r q : Answer (Unit {0})) → Right g rows es (taking i h r) → Right g rows es (taking i h q) → r ≡ q
 take_one g rows es i h (ok u) (ok w) x y = refl
 take_one g rows es i h (ok u) (refused n p) x (inl y) = absurd (omega (arith, x.0, y.0))
 take_one g rows es i h (ok u) (refused n p) x (inr y) = absurd (x.1 p y.2)
 take_one g rows es i h (refused n p) (ok u) (inl x) y = absurd (omega (arith, x.0, y.0))
 take_one g rows es i h (refused n p) (ok u) (inr x) y = absurd (y.1 p x.2)
-take_one g rows es i h (refused n p) (refused m q) (inl x) (inl y) = let a : n ≡ m = x.1 ∙ sym y.1 in let b : p ≡ q = x.2 ∙ sym y.2 in cc
-take_one g rows es i h (refused n p) (refused m q) (inl x) (inr y) = absurd (omega (arith, x.0, y.0))
-take_one g rows es i h (refused n p) (refused m q) (inr x) (inl y) = absurd (omega (arith, x.0, y.0))
-take_one g rows es i h (refused n p) (refused m q) (inr x) (inr y) = pick (cases_order p q)
-  where
-    pick : (p ≡ q) ⊎ ((p < q) ⊎ (q < p)) → ◌≡◌ {A = Answer (Unit {0})} (refused n p) (refused m q)
-    pick (inl e) = let a : n ≡ m = x.1 ∙ sym y.1 in cc
-    pick (inr (inl l)) = absurd (y.3 p l x.2)
-    pick (inr (inr l)) = absurd (x.3 q l y.2)
+take_one g rows es i h (refused n p) (refused m q) x y = let first = cases_order p q in grind arith
 
-give_one : (g : Graph) (rows : List Row) (es : History) (k : ℕ) (r q : Answer (Unit {0})) → Right g rows es (giving k r) → Right g rows es (giving k q) → r ≡ q
+give_one :
+    (g : Graph) (rows : List Row) (es : History) (k : ℕ) (r q : Answer (Unit {0})) → Right g rows es (giving k r) → Right g rows es (giving k q) → r ≡ q
 give_one g rows es k (ok u) (ok w) x y = refl
 give_one g rows es k (ok u) (refused n p) x y = absurd y
 give_one g rows es k (refused n p) r x y = absurd x
@@ -54,13 +49,17 @@ module _ (μ : Meaning) (sound : Sound μ.graph) (rows : List Row) (L : Listing 
       pj : Proper μ.graph (row rows j).part
       pj = proper μ sound rows L j y.is_row
 
-      back : (a b : ℕ) → Innermost μ.graph rows s a → Innermost μ.graph rows s b → Proper μ.graph (row rows a).part → Holds μ.graph (row rows a).part (row rows b).part → a ≡ b
+      back :
+          (a b : ℕ) → Innermost μ.graph rows s a → Innermost μ.graph rows s b → Proper μ.graph (row rows a).part →
+          Holds μ.graph (row rows a).part (row rows b).part → a ≡ b
       back a b u w pa h =
           both μ sound rows L a b u.is_row w.is_row h
-          (λ t k. exactly_all μ.graph.steps (row rows b).inside (row rows a).inside (In μ.graph (row rows b).part) (In μ.graph (row rows a).part) (L.counts b w.is_row) (L.counts a u.is_row)
-          (λ t _. h t) (u.fewest b w.is_row w.inside) t (step μ.graph sound (row rows a).part pa t k) k)
+          (λ t k. exactly_all μ.graph.steps (row rows b).inside (row rows a).inside (In μ.graph (row rows b).part) (In μ.graph (row rows a).part)
+          (L.counts b w.is_row) (L.counts a u.is_row) (λ t _. h t) (u.fewest b w.is_row w.inside) t (step μ.graph sound (row rows a).part pa t k) k)
 
-      pick : Apart μ.graph (row rows i).part (row rows j).part ⊎ (Holds μ.graph (row rows i).part (row rows j).part ⊎ Holds μ.graph (row rows j).part (row rows i).part) → i ≡ j
+      pick :
+          Apart μ.graph (row rows i).part (row rows j).part ⊎ (Holds μ.graph (row rows i).part (row rows j).part ⊎ Holds μ.graph (row rows j).part (row rows i).part) →
+          i ≡ j
       pick (inl h) = absurd (h s x.inside y.inside)
       pick (inr (inl h)) = back i j x y pi h
       pick (inr (inr h)) = sym (back j i y x pj h)
@@ -69,7 +68,7 @@ module _ (μ : Meaning) (sound : Sound μ.graph) (rows : List Row) (L : Listing 
   find_one es s (ok i) (ok j) x y = ap (λ (k : ℕ). ok k) (innermost_one s i j x.1 y.1)
   find_one es s (ok i) (refused n p) x y = absurd (omega (arith, x.0, y.0))
   find_one es s (refused n p) (ok i) x y = absurd (omega (arith, x.0, y.0))
-  find_one es s (refused n p) (refused m q) x y = let a : n ≡ m = x.1 ∙ sym y.1 in let b : p ≡ q = x.2 ∙ sym y.2 in cc
+  find_one es s (refused n p) (refused m q) x y = cc
 
 pub one_answer : OneAnswer
 one_answer = record { next = λ μ. next_one μ.graph; take = λ μ. take_one μ.graph; give = λ μ. give_one μ.graph; find = find_one }

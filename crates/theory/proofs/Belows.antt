@@ -1,5 +1,6 @@
 -- Below by steps and below by parents are one.
-use Rattle.std.proofs.Common.{◌≡◌, ℕ, zero, suc, ◌<◌, ◌≤◌, ◌≢◌, ◌⊎◌, List, length, Some, None, sym, ap, ◌∙◌, subst, inl, inr, arith}
+use Rattle.std.proofs.Common.{◌≡◌, ℕ, zero, suc, ◌<◌, ◌≤◌, ◌≢◌, ◌⊎◌, List, length, Some, sym, ap, ◌∙◌, subst, inl, inr, arith}
+use Rattle.std.proofs.lemmas.Option.{none-some, same_Some}
 use Rattle.std.proofs.lemmas.Bool.{cases_eq}
 use Rattle.model.specs.Meaning.{Meaning}
 use Rattle.model.specs.Walks.{Sound}
@@ -19,7 +20,9 @@ module _ (μ : Meaning) (sound : Sound μ.graph) (rows : List Row) (L : Listing 
       let lp = L.after p.0 j p.2.is_row lj (p.2.other, p.2.holds) in
       pick p (λ n. up f i p.0 (omega arith) li p.2.is_row (n, parent_least μ sound rows L p.0 j i lj p.2 li b.0 b.1)) (cases_eq i p.0)
     where
-      pick : (p : (p : ℕ) × ((row rows j).parent ≡ Some p) × Parent μ.graph rows p j) → (i ≢ p.0 → Above rows i p.0) → (i ≡ p.0) ⊎ (i ≡ p.0 → ⊥) → Above rows i j
+      pick :
+          (p : (p : ℕ) × ((row rows j).parent ≡ Some p) × Parent μ.graph rows p j) → (i ≢ p.0 → Above rows i p.0) → (i ≡ p.0) ⊎ (i ≡ p.0 → ⊥) →
+          Above rows i j
       pick p more (inl e) = parent (p.1 ∙ ap (λ (x : ℕ). Some x) (sym e))
       pick p more (inr n) = higher p.1 (more n)
 
@@ -28,8 +31,8 @@ module _ (μ : Meaning) (sound : Sound μ.graph) (rows : List Row) (L : Listing 
   under i j lj e = pick (cases_eq j 0)
     where
       pick : (j ≡ 0) ⊎ (j ≡ 0 → ⊥) → Parent μ.graph rows i j
-      pick (inl z) = let a = ap (λ (x : ℕ). (row rows x).parent) z ∙ L.rootless in let q : None ≡ Some i = sym a ∙ e in let c : ◌≡◌ {A = ℕ} 0 1 = cc in absurd (omega arith)
-      pick (inr z) = let p = L.parents j (omega arith) lj in let q : Some p.0 ≡ Some i = sym p.1 ∙ e in let c : p.0 ≡ i = cc in subst (λ (x : ℕ). Parent μ.graph rows x j) c p.2
+      pick (inl z) = absurd (none-some i (sym (ap (λ (x : ℕ). (row rows x).parent) z ∙ L.rootless) ∙ e))
+      pick (inr z) = let p = L.parents j (omega arith) lj in subst (λ (x : ℕ). Parent μ.graph rows x j) (same_Some p.0 i (sym p.1 ∙ e)) p.2
 
   down : {i j : ℕ} → i < length rows → j < length rows → Above rows i j → Below μ.graph rows i j
   down {i} {j} li lj (parent e) = let p = under i j lj e in (p.other, p.holds)

@@ -1,6 +1,6 @@
 -- Every link has a class name, and a link with equal ends has its class for itself.
 use Rattle.std.proofs.Common.{◌≡◌, ℕ, zero, suc, ◌<◌, ◌≤◌, ◌⊎◌, [], ◌∷◌, length, sym, refl, subst, inl, inr, arith}
-use Rattle.std.proofs.lemmas.Bool.{cases_eq, cases_lt}
+use Rattle.std.proofs.lemmas.Bool.{cases_eq}
 use Rattle.model.specs.Meaning.{Graph, tail_of}
 use Rattle.model.specs.Walks.{closed, Passes, Share, ClassName, Sound}
 use Rattle.theory.specs.Cuts.{ClassNamed, EqualEndsAlone}
@@ -31,11 +31,7 @@ module _ (g : Graph) (sound : Sound g) (l : ℕ) (ll : l < length g.links) where
     where
       pick : ((k : ℕ) → k < length g.links → Share (closed g) k l → ⊥) ⊎ Found (length g.links) → (c : ℕ) × ClassName g l c
       pick (inl none) = absurd (none l ll (share_refl (closed g) l l refl))
-      pick (inr f) = (f.0, record { is_link = f.1; shares = f.2; smallest = λ k _ s. least f.0 f.3 k s (cases_lt k f.0) })
-        where
-          least : (c : ℕ) → ((k : ℕ) → k < c → Share (closed g) k l → ⊥) → (k : ℕ) → Share (closed g) k l → (k < c) ⊎ (c ≤ k) → c ≤ k
-          least c none k s (inl h) = absurd (none k h s)
-          least c none k s (inr h) = h
+      pick (inr f) = (f.0, record { is_link = f.1; shares = f.2; smallest = λ k _ s. let less : k < f.0 → ⊥ = λ h. f.3 k h s in omega arith })
 
   one_name : (c d : ℕ) → ClassName g l c → ClassName g l d → c ≡ d
   one_name c d p q =

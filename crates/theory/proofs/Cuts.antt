@@ -1,10 +1,11 @@
 -- The easy direction: two links that are the only ones across a set share every closed walk.
-use Rattle.std.proofs.Common.{◌≡◌, ℕ, ◌<◌, Bool, true, not, ◌≢◌, ◌⊎◌, List, [], ◌∷◌, ◌++◌, length, sym, ap, ◌∙◌, subst, inl, inr}
+use Rattle.std.proofs.Common.{◌≡◌, ℕ, ◌<◌, Bool, true, not, ◌≢◌, List, [], ◌∷◌, length, sym, ap, ◌∙◌, arith}
 use Rattle.std.proofs.lemmas.Bool.{cases_eq, both_ways}
 use Rattle.model.specs.Meaning.{tail_of, head_of}
 use Rattle.model.specs.Walks.{Links, Walks, Passes, Share}
 use Rattle.theory.specs.Cuts.{Cut}
-use Rattle.theory.proofs.Walks.{Avoids, passes?, passes_append, passes_left, passes_right, walks_append, Split, split}
+use Rattle.theory.proofs.Decide.{turned}
+use Rattle.theory.proofs.Walks.{Avoids}
 
 -- no link but b leaves the set
 abbrev pub Keeps : Links → ℕ → (ℕ → Bool) → Type 0
@@ -16,31 +17,15 @@ stays G b S keeps u v (k ∷ ks) w h s =
     stays G b S keeps (head_of G k) v ks w.2 h.1 (keeps k w.0 h.0 (ap S w.1 ∙ s))
 
 pub cut_keeps : (G : Links) (a b : ℕ) (S : ℕ → Bool) → Cut G a b S → Keeps G b S
-cut_keeps G a b S c k l n s = pick (cases_eq k a)
-  where
-    pick : (k ≡ a) ⊎ (k ≡ a → ⊥) → S (head_of G k) ≡ true
-    pick (inl e) = ap (λ (x : ℕ). S (head_of G x)) e ∙ c.a_to
-    pick (inr m) = sym (c.others k l m n) ∙ s
+cut_keeps G a b S c k l n s =
+    let other = c.others k l in
+    let to = c.a_to in
+    grind (arith, cases_eq k a)
 
 -- a closed walk through a passes b
 pub forced : (G : Links) (a b : ℕ) (S : ℕ → Bool) → Cut G a b S → (u : ℕ) (ks : List ℕ) → Walks G u ks u → Passes a ks → Passes b ks
-forced G a b S c u ks w p = subst (λ (x : List ℕ). Passes b x) (sym s.is) (pick (passes? b (s.after ++ s.before)))
-  where
-    s : Split G u u a ks
-    s = split G u u a ks w p
-
-    turn : Walks G (head_of G a) (s.after ++ s.before) (tail_of G a)
-    turn = walks_append G (head_of G a) u (tail_of G a) s.after s.before s.from s.to
-
-    back : Passes b s.after ⊎ Passes b s.before → Passes b (s.before ++ (a ∷ s.after))
-    back (inl q) = passes_right b s.before (a ∷ s.after) (inr q)
-    back (inr q) = passes_left b s.before (a ∷ s.after) q
-
-    pick : Passes b (s.after ++ s.before) ⊎ Avoids b (s.after ++ s.before) → Passes b (s.before ++ (a ∷ s.after))
-    pick (inl q) = back (passes_append b s.after s.before q)
-    pick (inr h) =
-        absurd (both_ways (S (tail_of G a)) c.a_from
-        (stays G b S (cut_keeps G a b S c) (head_of G a) (tail_of G a) (s.after ++ s.before) turn h c.a_to))
+forced G a b S c =
+    turned G a b (λ ks w h. both_ways (S (tail_of G a)) c.a_from (stays G b S (cut_keeps G a b S c) (head_of G a) (tail_of G a) ks w h c.a_to))
 
 -- the other side of a cut is a cut
 pub flip : (G : Links) (a b : ℕ) (S : ℕ → Bool) → Cut G a b S → Cut G b a (λ v. not (S v))

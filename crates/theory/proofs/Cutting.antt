@@ -1,5 +1,6 @@
 -- The hard direction: two links that share every closed walk are the only ones across some set.
 use Rattle.std.proofs.Common.{◌≡◌, ℕ, ◌<◌, Bool, true, false, ◌≢◌, ◌⊎◌, List, [], ◌∷◌, ◌++◌, length, sym, refl, ap, ◌∙◌, inl, inr, arith}
+use Rattle.theory.proofs.Decide.{unturned}
 use mathlib.Core.Logic.{∥∥₁_elim}
 use mathlib.Core.Bool.{Bool-set}
 use Rattle.std.proofs.lemmas.Bool.{cases_eq, cases_Bool, both_ways}
@@ -30,16 +31,11 @@ walk_of G n u v within l some = (r.0, r.1)
 -- a walk out of the set takes b out of it
 pub leaves : (G : Links) (b : ℕ) (S : ℕ → Bool) → Keeps G b S → (u v : ℕ) (ks : List ℕ) → Walks G u ks v → S u ≡ true → S v ≡ false →
     (S (tail_of G b) ≡ true) × (S (head_of G b) ≡ false)
-leaves G b S keeps u v [] w s t = absurd (both_ways (S v) t (ap S (sym w) ∙ s))
-leaves G b S keeps u v (k ∷ ks) w s t = pick (cases_Bool (S (head_of G k))) (cases_eq k b) (λ h. leaves G b S keeps (head_of G k) v ks w.2 h t)
-  where
-    Out : Type 0
-    Out = (S (tail_of G b) ≡ true) × (S (head_of G b) ≡ false)
-
-    pick : (S (head_of G k) ≡ true) ⊎ (S (head_of G k) ≡ false) → (k ≡ b) ⊎ (k ≡ b → ⊥) → (S (head_of G k) ≡ true → Out) → Out
-    pick (inl h) c next = next h
-    pick (inr h) (inl e) next = (ap (λ (x : ℕ). S (tail_of G x)) (sym e) ∙ ap S w.1 ∙ s, ap (λ (x : ℕ). S (head_of G x)) (sym e) ∙ h)
-    pick (inr h) (inr n) next = absurd (both_ways (S (head_of G k)) h (keeps k w.0 n (ap S w.1 ∙ s)))
+leaves G b S keeps u v [] w s t = absurd (both_ways (S v) t (cc))
+leaves G b S keeps u v (k ∷ ks) w s t =
+    let on = leaves G b S keeps (head_of G k) v ks w.2 in
+    let kept = keeps k w.0 in
+    grind (arith, cases_eq k b, cases_Bool (S (head_of G k)))
 
 -- a walk without b that begins in the set never takes a, which begins outside
 pub inner : (G : Links) (a b : ℕ) (S : ℕ → Bool) → Keeps G b S → S (tail_of G a) ≡ false →
@@ -80,13 +76,7 @@ module _ (G : Links) (n a b : ℕ) (within : EndsBelow n G) (strong : Strong n G
 
   S_a_from : S (tail_of G a) ≡ false
   unfolding S
-  S_a_from = pick (cases_Bool (reach G n b (head_of G a) (tail_of G a)))
-    where
-      pick : (reach G n b (head_of G a) (tail_of G a) ≡ true) ⊎ (reach G n b (head_of G a) (tail_of G a) ≡ false) → reach G n b (head_of G a) (tail_of G a) ≡ false
-      pick (inr h) = h
-      pick (inl h) =
-          let r = reach_walk G b n (head_of G a) (tail_of G a) h in
-          absurd (avoids_no b (a ∷ r.0) (apart, r.2) ((share (tail_of G a) (a ∷ r.0) (omega arith, (la, refl, r.1))).0 (inl refl)))
+  S_a_from = unturned G n a b la apart (λ u ks w. (share u ks w).0)
 
   S_b : (S (tail_of G b) ≡ true) × (S (head_of G b) ≡ false)
   S_b =
@@ -121,12 +111,10 @@ module _ (G : Links) (n a b : ℕ) (within : EndsBelow n G) (strong : Strong n G
       avoids_no a (b ∷ round) (λ e. apart (sym e), avoids_append a p.0 (k ∷ q.0) p.2 (na, q.2)) ((share (tail_of G b) (b ∷ round) (omega arith, w)).1 (inl refl))
 
   S_others : (k : ℕ) → k < length G → k ≢ a → k ≢ b → S (tail_of G k) ≡ S (head_of G k)
-  S_others k l na nb = pick (cases_Bool (S (tail_of G k))) (cases_Bool (S (head_of G k)))
-    where
-      pick : (S (tail_of G k) ≡ true) ⊎ (S (tail_of G k) ≡ false) → (S (head_of G k) ≡ true) ⊎ (S (head_of G k) ≡ false) → S (tail_of G k) ≡ S (head_of G k)
-      pick (inl t) h = t ∙ sym (S_keeps k l nb t)
-      pick (inr t) (inl h) = absurd (no_other k l na t h)
-      pick (inr t) (inr h) = t ∙ sym h
+  S_others k l na nb =
+      let keeps = S_keeps k l nb in
+      let none = no_other k l na in
+      grind (arith, cases_Bool (S (tail_of G k)), cases_Bool (S (head_of G k)))
 
   cut : Cut G a b S
   cut = record { a_from = S_a_from; a_to = S_a_to; b_from = S_b.0; b_to = S_b.1; others = S_others }

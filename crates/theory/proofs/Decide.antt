@@ -1,6 +1,6 @@
 -- Sharing is decided by reaching.
 use Rattle.std.proofs.Common.{◌≡◌, ℕ, ◌<◌, Bool, true, false, not, ◌&&◌, ◌||◌, eqb, ◌≢◌, ◌⊎◌, List, ◌∷◌, ◌++◌, length, sym, refl, subst, inl, inr, arith}
-use Rattle.std.proofs.lemmas.Bool.{cases_eq, cases_Bool, both_ways, or_cases, or_left, or_right, and_parts, and_from, not-true, not_from_false, eqb-true, eq-eqb}
+use Rattle.std.proofs.lemmas.Bool.{cases_eq, both_ways, or_cases, or_left, or_right, and_parts, not-true, eqb-true, eq-eqb, false_from_ne_true}
 use Rattle.model.specs.Meaning.{tail_of, head_of}
 use Rattle.model.specs.Walks.{Links, Walks, Passes, ClosedWalk, Share}
 use Rattle.theory.specs.Tests.{reach, shareb}
@@ -27,13 +27,10 @@ turned G a b none u ks w p = subst (Passes b) (sym s.is) (pick (passes? b (s.aft
 -- and the other way round
 pub unturned : (G : Links) (n a b : ℕ) → a < length G → a ≢ b → ((u : ℕ) (ks : List ℕ) → ClosedWalk G u ks → Passes a ks → Passes b ks) →
     reach G n b (head_of G a) (tail_of G a) ≡ false
-unturned G n a b la apart share = pick (cases_Bool (reach G n b (head_of G a) (tail_of G a)))
-  where
-    pick : (reach G n b (head_of G a) (tail_of G a) ≡ true) ⊎ (reach G n b (head_of G a) (tail_of G a) ≡ false) → reach G n b (head_of G a) (tail_of G a) ≡ false
-    pick (inr h) = h
-    pick (inl h) =
-        let r = reach_walk G b n (head_of G a) (tail_of G a) h in
-        absurd (avoids_no b (a ∷ r.0) (apart, r.2) (share (tail_of G a) (a ∷ r.0) (omega arith, (la, refl, r.1)) (inl refl)))
+unturned G n a b la apart share =
+    false_from_ne_true (reach G n b (head_of G a) (tail_of G a)) (λ h.
+    let r = reach_walk G b n (head_of G a) (tail_of G a) h in
+    avoids_no b (a ∷ r.0) (apart, r.2) (share (tail_of G a) (a ∷ r.0) (omega arith, (la, refl, r.1)) (inl refl)))
 
 pub share_decided : ShareDecided
 unfolding shareb
@@ -48,13 +45,12 @@ share_decided G n a b within la lb = (λ e. there (or_cases (eqb a b) (test a b 
         (walk_reach G y n (head_of G x) (tail_of G x) within (within x l).1 (ks, w, h)))
 
     there : (eqb a b ≡ true) ⊎ ((test a b && test b a) ≡ true) → Share G a b
-    there (inl e) u ks w = let q = eqb-true a b e in (λ p. subst (λ (x : ℕ). Passes x ks) q p, λ p. subst (λ (x : ℕ). Passes x ks) (sym q) p)
+    there (inl e) u ks w = let q = eqb-true a b e in (λ p. rw (← q) p, λ p. rw q p)
     there (inr e) u ks w = let q = and_parts (test a b) (test b a) e in (half a b la q.0 u ks w.1, half b a lb q.1 u ks w.1)
 
     back : Share G a b → (a ≡ b) ⊎ (a ≡ b → ⊥) → (eqb a b || (test a b && test b a)) ≡ true
     back s (inl e) = or_left (eqb a b) (test a b && test b a) (eq-eqb a b e)
     back s (inr d) =
-        or_right (eqb a b) (test a b && test b a)
-        (and_from (test a b) (test b a)
-        (not_from_false (reach G n b (head_of G a) (tail_of G a)) (unturned G n a b la d (λ u ks w. (s u ks w).0)))
-        (not_from_false (reach G n a (head_of G b) (tail_of G b)) (unturned G n b a lb (λ e. d (sym e)) (λ u ks w. (s u ks w).1))))
+        let x = unturned G n a b la d (λ u ks w. (s u ks w).0) in
+        let y = unturned G n b a lb (λ e. d (sym e)) (λ u ks w. (s u ks w).1) in
+        rw (x, y) (or_right (eqb a b) true refl)

@@ -1,10 +1,10 @@
 -- The inside of a fragment is what its two links cut off; fragments nest, and are told by their insides.
-use Rattle.std.proofs.Common.{◌≡◌, ℕ, ◌<◌, ◌≤◌, Bool, true, false, ◌⊎◌, ◌↔◌, [], length, sym, refl, ap, ◌∙◌, subst, inl, inr, arith}
+use Rattle.std.proofs.Common.{◌≡◌, ℕ, ◌<◌, ◌≤◌, Bool, true, false, ◌⊎◌, ◌↔◌, [], length, sym, refl, ap, ◌∙◌, subst, inl, inr, arith, ap₂}
 use mathlib.Core.Path.{fun_ext}
 use mathlib.Core.Logic.{∥∥₁_elim}
 use mathlib.Core.HLevel.{⊥_prop}
 use mathlib.Core.Bool.{xor, Bool-set}
-use Rattle.std.proofs.lemmas.Bool.{cases_eq, cases_Bool, cases_lt, both_ways, true≢false, false≢true}
+use Rattle.std.proofs.lemmas.Bool.{cases_eq, cases_Bool, cases_lt, both_ways, false≢true}
 use Rattle.model.specs.Meaning.{Graph, tail_of, head_of}
 use Rattle.model.specs.Walks.{closed, Share, SingleEntryExit, Canonical, Inside, Sound}
 use Rattle.model.specs.Parts.{Part, whole, fragment, In, Proper, Holds, Apart, Counted}
@@ -20,18 +20,10 @@ use Rattle.theory.proofs.Plans.{more, back_tail, closed_within, closed_strong, S
 use Rattle.theory.proofs.Lines.{canonical_apart}
 use Rattle.theory.proofs.Counting.{exactly_all}
 
--- two answers to one question agree
-agree : (P : Type 0) (x y : Bool) → (P ↔ (x ≡ true)) → (P ↔ (y ≡ true)) → x ≡ y
-agree P true true p q = refl
-agree P true false p q = sym (q.0 (p.1 refl))
-agree P false true p q = p.0 (q.1 refl)
-agree P false false p q = refl
-
-xor_false : (x y : Bool) → x ≡ false → y ≡ false → xor x y ≡ false
+-- p and q differ just where x and y do: then p and x differ just where q and y do
+xor_turn : (p q x y : Bool) → xor p q ≡ xor x y → xor p x ≡ xor q y
 unfolding xor
-xor_false true y e f = absurd (true≢false e)
-xor_false false true e f = absurd (true≢false f)
-xor_false false false e f = refl
+xor_turn p q x y e = grind arith
 
 module _ (g : Graph) (sound : Sound g) where
   pub inside_step : (a b s : ℕ) → a < length g.links → Inside g a b s → s < g.steps
@@ -45,9 +37,6 @@ module _ (g : Graph) (sound : Sound g) where
 
   module _ (a b : ℕ) (r : SingleEntryExit g a b) where
     -- the test along the plan's own links
-    pub told : ℕ → Bool
-    told s = reach g.links g.steps b (head_of g.links a) s
-
     pub decided : (s : ℕ) → (Inside g a b s ↔ (reach g.links g.steps b (head_of g.links a) s ≡ true))
     decided s = (
       λ i. ∥∥₁_elim i (Bool-set (reach g.links g.steps b (head_of g.links a) s) true) (λ w.
@@ -59,10 +48,11 @@ module _ (g : Graph) (sound : Sound g) where
     by_closed : (s : ℕ) → (Inside g a b s ↔ (S g sound a b r s ≡ true))
     by_closed s = (inside_reach g sound a b r s, reach_inside g sound a b r s)
 
+    alike : (s : ℕ) → S g sound a b r s ≡ reach g.links g.steps b (head_of g.links a) s
+    alike s = let c = by_closed s in let d = decided s in grind arith
+
     cut_told : Cut (closed g) a b (reach g.links g.steps b (head_of g.links a))
-    cut_told =
-        subst (Cut (closed g) a b)
-        (fun_ext (λ s. agree (Inside g a b s) (S g sound a b r s) (reach g.links g.steps b (head_of g.links a) s) (by_closed s) (decided s))) (the_cut g sound a b r)
+    cut_told = subst (Cut (closed g) a b) (fun_ext alike) (the_cut g sound a b r)
 
     pub neither : (Inside g a b g.first → ⊥) × (Inside g a b g.last → ⊥)
     neither = (
@@ -78,21 +68,9 @@ module _ (g : Graph) (sound : Sound g) where
         X : ℕ → Bool
         X v = xor (S g sound a b r v) (T v)
 
-        mix : (p q x y : Bool) → xor p q ≡ xor x y → xor p x ≡ xor q y
-        mix true true x y e = ap (xor true) (xor_same x y (sym e))
-        mix true false true false e = refl
-        mix true false false true e = refl
-        mix true false true true e = absurd (true≢false e)
-        mix true false false false e = absurd (true≢false e)
-        mix false true true false e = refl
-        mix false true false true e = refl
-        mix false true true true e = absurd (true≢false e)
-        mix false true false false e = absurd (true≢false e)
-        mix false false x y e = ap (xor false) (xor_same x y (sym e))
-
         still : (k : ℕ) → k < length (closed g) → X (tail_of (closed g) k) ≡ X (head_of (closed g) k)
         still k lk =
-            mix (S g sound a b r (tail_of (closed g) k)) (S g sound a b r (head_of (closed g) k)) (T (tail_of (closed g) k)) (T (head_of (closed g) k))
+            xor_turn (S g sound a b r (tail_of (closed g) k)) (S g sound a b r (head_of (closed g) k)) (T (tail_of (closed g) k)) (T (head_of (closed g) k))
             (cut_crossed (closed g) a b (S g sound a b r) (the_cut g sound a b r) k lk ∙ sym (crossed k lk))
 
         same : S g sound a b r s ≡ T s
@@ -102,7 +80,7 @@ module _ (g : Graph) (sound : Sound g) where
             pick (inr e) = xor_same (S g sound a b r s) (T s) e
             pick (inl e) =
                 absurd (lone (closed g) g.steps (closed_within g sound) (closed_strong g sound) X 0 (λ k lk _. still k lk) s g.first l sound.begins e
-                (xor_false (S g sound a b r g.first) (T g.first) (first_out g sound a b r) out))
+                (ap₂ xor (first_out g sound a b r) out))
 
   -- what has a row is within the plan, and has a step
   pub step : (p : Part) → Proper g p → (s : ℕ) → In g p s → s < g.steps
@@ -114,14 +92,9 @@ module _ (g : Graph) (sound : Sound g) where
   some_step (fragment a b) c = (head_of g.links a, ∣ ([], refl, λ p. p) ∣₁)
 
   pub share? : (a c : ℕ) → a < length g.links → c < length g.links → Share (closed g) a c ⊎ (Share (closed g) a c → ⊥)
-  share? a c la lc = pick (cases_Bool (shareb (closed g) g.steps a c))
-    where
-      t : (shareb (closed g) g.steps a c ≡ true) ↔ Share (closed g) a c
-      t = share_decided (closed g) g.steps a c (closed_within g sound) (omega (arith, more g)) (omega (arith, more g))
-
-      pick : (shareb (closed g) g.steps a c ≡ true) ⊎ (shareb (closed g) g.steps a c ≡ false) → Share (closed g) a c ⊎ (Share (closed g) a c → ⊥)
-      pick (inl e) = inl (t.0 e)
-      pick (inr e) = inr (λ h. both_ways (shareb (closed g) g.steps a c) e (t.1 h))
+  share? a c la lc =
+      let t = share_decided (closed g) g.steps a c (closed_within g sound) (omega (arith, more g)) (omega (arith, more g)) in
+      grind (arith, cases_Bool (shareb (closed g) g.steps a c))
 
   pub nest : (p q : Part) → Proper g p → Proper g q → Apart g p q ⊎ (Holds g p q ⊎ Holds g q p)
   nest whole q c d = inr (inl (λ s i. step q d s i))
@@ -160,16 +133,18 @@ module _ (g : Graph) (sound : Sound g) where
           (first_out g sound a b c.pair) (first_out g sound x y d.pair))
 
   -- two with the same steps: the entry of the one crosses the set of the other, so it is one of its two links
-  pub tells : (a b c d : ℕ) → Canonical g a b → Canonical g c d → Holds g (fragment a b) (fragment c d) → Holds g (fragment c d) (fragment a b) → (a ≡ c) × (b ≡ d)
+  pub tells :
+      (a b c d : ℕ) → Canonical g a b → Canonical g c d → Holds g (fragment a b) (fragment c d) → Holds g (fragment c d) (fragment a b) →
+      (a ≡ c) × (b ≡ d)
   tells a b c d p q h k = pick (share? a c p.pair.leads.1 q.pair.leads.1)
     where
-      C : ℕ → Bool
-      C = S g sound c d q.pair
-
       same : (s : ℕ) → S g sound a b p.pair s ≡ S g sound c d q.pair s
       same s =
-          agree (Inside g a b s) (S g sound a b p.pair s) (S g sound c d q.pair s) (inside_reach g sound a b p.pair s, reach_inside g sound a b p.pair s)
-          (λ i. inside_reach g sound c d q.pair s (k s i), λ e. h s (reach_inside g sound c d q.pair s e))
+          let ab = by_closed a b p.pair s in
+          let cd = by_closed c d q.pair s in
+          let to = k s in
+          let back = h s in
+          grind arith
 
       crossing : (a ≡ c) ⊎ (a ≡ c → ⊥) → (a ≡ d) ⊎ (a ≡ d → ⊥) → Share (closed g) a c
       crossing (inl e) f = share_refl (closed g) a c e
@@ -187,7 +162,9 @@ module _ (g : Graph) (sound : Sound g) where
       pick (inr n) = absurd (n (crossing (cases_eq a c) (cases_eq a d)))
 
   -- of two that hold a third, the one with no more steps lies in the other
-  pub least : (p q r : Part) (j k : ℕ) → Proper g p → Proper g q → Proper g r → Holds g p r → Holds g q r → Counted g p j → Counted g q k → j ≤ k → Holds g q p
+  pub least :
+      (p q r : Part) (j k : ℕ) → Proper g p → Proper g q → Proper g r → Holds g p r → Holds g q r → Counted g p j → Counted g q k → j ≤ k →
+      Holds g q p
   least p q r j k pp pq pr hp hq cp cq le = pick (nest p q pp pq)
     where
       pick : Apart g p q ⊎ (Holds g p q ⊎ Holds g q p) → Holds g q p

@@ -1,8 +1,8 @@
 -- What every list of calls keeps of a book that is opened over a sound plan, call by call.
-use Rattle.std.proofs.Common.{◌≡◌, ℕ, zero, suc, ◌+◌, ◌-◌, ◌<◌, ◌≤◌, Bool, true, false, cond, ◌||◌, eqb, ◌≢◌, ◌⊎◌, List, [], ◌∷◌, length, get_or, Some, None, Option, sym, refl, ap, ◌∙◌, subst, inl, inr, arith, length-set, get_or-set_other, get_or-set_same}
+use Rattle.std.proofs.Common.{◌≡◌, ℕ, zero, suc, ◌+◌, ◌-◌, ◌<◌, ◌≤◌, Bool, false, cond, ◌||◌, eqb, ◌≢◌, ◌⊎◌, List, [], ◌∷◌, length, Some, None, Option, sym, refl, ap, ◌∙◌, subst, inl, inr, arith, length-set, get_or-set_other, get_or-set_same}
 use mathlib.Core.Logic.{∥∥₁_elim}
 use mathlib.Core.HLevel.{⊥_prop}
-use Rattle.std.proofs.lemmas.Bool.{cases_eq, or_parts, eqb-false, eq-eqb, ne_eqb, eqb-true}
+use Rattle.std.proofs.lemmas.Bool.{or_parts, eqb-false, eq-eqb, ne_eqb, cond-true, cond-false}
 use Rattle.model.specs.Meaning.{Graph, Meaning}
 use Rattle.model.specs.Walks.{Sound}
 use Rattle.model.specs.Parts.{Part, In, Proper, Holds, Apart, Clash}
@@ -11,6 +11,7 @@ use Rattle.model.specs.History.{is_for}
 use Rattle.theory.specs.Calls.{View, at_place, marked, mark, InRun, Meets, Opened}
 use Rattle.theory.proofs.Insides.{some_step, nest}
 use Rattle.theory.proofs.Unique.{proper}
+use Rattle.std.proofs.lemmas.Bool.Decides.{nat_tests}
 
 -- sh was shown, sl are the slips, en those ended, ho who has each row
 pub record Kept (g : Graph) (v w : View) (sh : List Row) (sl : ℕ → Option (ℕ × ℕ)) (en : ℕ → Bool) (ho : ℕ → Option ℕ) : Type 0 where
@@ -27,23 +28,13 @@ pub record Kept (g : Graph) (v w : View) (sh : List Row) (sl : ℕ → Option (�
   pub alone : (k l : ℕ) (s t : ℕ × ℕ) → (k ≡ l → ⊥) → sl k ≡ Some s → en k ≡ false → sl l ≡ Some t → en l ≡ false → s.0 ≢ t.0
   pub apart : (i j h k : ℕ) → i ≢ j → ho i ≡ Some h → ho j ≡ Some k → Apart g (row v.rows i).part (row v.rows j).part
 
-pub none_some : {A : Type 0} (x : A) → None ≡ Some x → ⊥
-none_some x e = let z : ◌≡◌ {A = ℕ} 0 1 = cc in omega arith
-
--- one place of a function written anew
-put_same : {A : Type 0} (i j : ℕ) (x y : A) → j ≡ i → cond (eqb j i) x y ≡ x
-put_same i j x y e = ap (λ (b : Bool). cond b x y) (eq-eqb j i e)
-
-put_other : {A : Type 0} (i j : ℕ) (x y : A) → j ≢ i → cond (eqb j i) x y ≡ y
-put_other i j x y d = ap (λ (b : Bool). cond b x y) (ne_eqb j i d)
-
 module _ (v w : View) (i : ℕ) (m : Option ℕ) (li : i < length w.marks) where
   mark_put : (ho : ℕ → Option ℕ) → ((j : ℕ) → mark w j ≡ ho j) → (j : ℕ) → mark (marked w i m) j ≡ cond (eqb j i) m (ho j)
-  mark_put ho marks j = pick (cases_eq j i)
-    where
-      pick : (j ≡ i) ⊎ (j ≡ i → ⊥) → mark (marked w i m) j ≡ cond (eqb j i) m (ho j)
-      pick (inl e) = ap (mark (marked w i m)) e ∙ get_or-set_same w.marks i m None li ∙ sym (put_same i j m (ho j) e)
-      pick (inr d) = get_or-set_other w.marks i j m None d ∙ marks j ∙ sym (put_other i j m (ho j) d)
+  mark_put ho marks j =
+      let at_i = get_or-set_same w.marks i m None li in
+      let at_j = get_or-set_other w.marks i j m None in
+      let old = marks j in
+      grind (arith, nat_tests)
 
 module _ (μ : Meaning) (sound : Sound μ.graph) (v : View) (start : Opened μ v) where
   abbrev g : Graph
@@ -73,16 +64,15 @@ module _ (μ : Meaning) (sound : Sound μ.graph) (v : View) (start : Opened μ v
 
   module _ (w : View) (sh : List Row) (sl : ℕ → Option (ℕ × ℕ)) (en : ℕ → Bool) (ho : ℕ → Option ℕ) (K : Kept g v w sh sl en ho) where
     pub meets_from : (i j h : ℕ) → i < n → ho j ≡ Some h → Clash g (part i) (part j) → Meets w i j
-    meets_from i j h li o c = ((h, K.marks j ∙ o), turn (clash_run i j li (K.out_row j h o) c))
-      where
-        turn : InRun v i j ⊎ InRun v j i → InRun w i j ⊎ InRun w j i
-        turn = subst (λ (r : List ℕ). (InRun v i j ⊎ InRun v j i) → ((i ≤ j) × (j < i + get_or r i 0)) ⊎ ((j ≤ i) × (i < j + get_or r j 0))) (sym K.runs) (λ x. x)
+    meets_from i j h li o c = ((h, K.marks j ∙ o), rw K.runs (clash_run i j li (K.out_row j h o) c))
 
     pub meets_clash : (i j : ℕ) → i < n → j < n → Meets w i j → Clash g (part i) (part j)
-    meets_clash i j li lj m = run_clash i j li lj (subst (λ (r : List ℕ). ((i ≤ j) × (j < i + get_or r i 0)) ⊎ ((j ≤ i) × (i < j + get_or r j 0))) K.runs m.1)
+    meets_clash i j li lj m = run_clash i j li lj (rw K.runs at m.1)
 
     -- the listing goes on, or begins again
-    placed : (p : ℕ) (rs : List Row) → p ≡ length rs → length rs ≤ n → ((j : ℕ) → j < length rs → row rs j ≡ row v.rows (length rs - suc j)) → Kept g v (at_place w p) rs sl en ho
+    placed :
+        (p : ℕ) (rs : List Row) → p ≡ length rs → length rs ≤ n → ((j : ℕ) → j < length rs → row rs j ≡ row v.rows (length rs - suc j)) →
+        Kept g v (at_place w p) rs sl en ho
     placed p rs place fits order =
         record {
           rows = K.rows;
@@ -123,19 +113,11 @@ module _ (μ : Meaning) (sound : Sound μ.graph) (v : View) (start : Opened μ v
         old : sl k ≡ Some s → Which k s
 
       which : (k : ℕ) (s : ℕ × ℕ) → cond (eqb k c) (Some (i, h)) (sl k) ≡ Some s → Which k s
-      which k s = go (eqb k c) refl
-        where
-          go : (b : Bool) → eqb k c ≡ b → cond b (Some (i, h)) (sl k) ≡ Some s → Which k s
-          go true e q = new (eqb-true k c e) (cc) (cc)
-          go false e q = old q
+      which k s q = grind (arith, nat_tests, new, old)
 
       -- row j is the one taken, or was out
       either : (j k : ℕ) → cond (eqb j i) (Some h) (ho j) ≡ Some k → (j ≡ i) ⊎ (ho j ≡ Some k)
-      either j k = go (eqb j i) refl
-        where
-          go : (b : Bool) → eqb j i ≡ b → cond b (Some h) (ho j) ≡ Some k → (j ≡ i) ⊎ (ho j ≡ Some k)
-          go true e q = inl (eqb-true j i e)
-          go false e q = inr q
+      either j k q = grind (arith, nat_tests)
 
       pub kept_take : Kept g v (marked w i (Some h)) sh (λ k. cond (eqb k c) (Some (i, h)) (sl k)) en (λ j. cond (eqb j i) (Some h) (ho j))
       kept_take =
@@ -159,8 +141,8 @@ module _ (μ : Meaning) (sound : Sound μ.graph) (v : View) (start : Opened μ v
           row_of j k (inr o) = K.out_row j k o
 
           live_of : (k : ℕ) (s : ℕ × ℕ) → en k ≡ false → Which k s → cond (eqb s.0 i) (Some h) (ho s.0) ≡ Some s.1
-          live_of k s f (new e r q) = put_same i s.0 (Some h) (ho s.0) r ∙ ap (λ (x : ℕ). Some x) (sym q)
-          live_of k s f (old e) = put_other i s.0 (Some h) (ho s.0) (far k s e f) ∙ K.live k s e f
+          live_of k s f (new e r q) = cond-true (eqb s.0 i) (Some h) (ho s.0) (eq-eqb s.0 i r) ∙ cc
+          live_of k s f (old e) = cond-false (eqb s.0 i) (Some h) (ho s.0) (ne_eqb s.0 i (far k s e f)) ∙ K.live k s e f
 
           alone_of : (k l : ℕ) (s t : ℕ × ℕ) → (k ≡ l → ⊥) → en k ≡ false → en l ≡ false → Which k s → Which l t → s.0 ≢ t.0
           alone_of k l s t d f f' (new e r q) (new e' r' q') x = d (e ∙ sym e')
@@ -181,14 +163,10 @@ module _ (μ : Meaning) (sound : Sound μ.graph) (v : View) (start : Opened μ v
 
       -- a row that is still out is another, and was out
       still : (j x : ℕ) → cond (is_for (sl k) j) None (ho j) ≡ Some x → (j ≢ s.0) × (ho j ≡ Some x)
-      still j x = go (is_for (sl k) j) refl
-        where
-          go : (b : Bool) → is_for (sl k) j ≡ b → cond b None (ho j) ≡ Some x → (j ≢ s.0) × (ho j ≡ Some x)
-          go true e q = absurd (none_some x q)
-          go false e q = (eqb-false j s.0 (sym (for j) ∙ e), q)
+      still j x q = let f = for j in grind (arith, nat_tests)
 
       keeps : (j : ℕ) → j ≢ s.0 → cond (is_for (sl k) j) None (ho j) ≡ ho j
-      keeps j d = ap (λ (b : Bool). cond b None (ho j)) (for j ∙ ne_eqb j s.0 d)
+      keeps j d = cond-false (is_for (sl k) j) None (ho j) (for j ∙ ne_eqb j s.0 d)
 
       pub kept_give : Kept g v (marked w s.0 None) sh sl (λ l. eqb l k || en l) (λ j. cond (is_for (sl k) j) None (ho j))
       kept_give =
@@ -200,9 +178,13 @@ module _ (μ : Meaning) (sound : Sound μ.graph) (v : View) (start : Opened μ v
             fits = K.fits;
             order = K.order;
             size = length-set w.marks s.0 None ∙ K.size;
-            marks = λ j. mark_put v w s.0 None (let l = K.out_row s.0 s.1 (K.live k s made going) in omega (arith, K.size)) ho K.marks j ∙ ap (λ (b : Bool). cond b None (ho j)) (sym (for j));
+            marks = λ j.
+                let l = K.out_row s.0 s.1 (K.live k s made going) in
+                mark_put v w s.0 None (omega (arith, K.size)) ho K.marks j ∙ ap (λ (b : Bool). cond b None (ho j)) (sym (for j));
             out_row = λ j x o. K.out_row j x (still j x o).1;
-            live = λ l t e f. let x = or_parts (eqb l k) (en l) f in keeps t.0 (K.alone l k t s (eqb-false l k x.0) e x.1 made going) ∙ K.live l t e x.1;
+            live = λ l t e f.
+                let x = or_parts (eqb l k) (en l) f in
+                keeps t.0 (K.alone l k t s (eqb-false l k x.0) e x.1 made going) ∙ K.live l t e x.1;
             alone = λ a b x y d e f e' f'. K.alone a b x y d e (or_parts (eqb a k) (en a) f).1 e' (or_parts (eqb b k) (en b) f').1;
             apart = λ a b x y d o p. K.apart a b x y d (still a x o).1 (still b y p).1;
           }

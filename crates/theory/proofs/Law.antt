@@ -1,14 +1,15 @@
 -- The law of every history of a book that is opened over a sound plan, by induction over the calls.
-use Rattle.std.proofs.Common.{◌≡◌, ℕ, suc, ◌-◌, ◌<◌, ◌≤◌, cond, ◌||◌, eqb, ◌⊎◌, List, [], ◌∷◌, length, get_or, Some, None, sym, refl, ap, ◌∙◌, subst, inl, inr, arith}
+use Rattle.std.proofs.Common.{◌≡◌, ℕ, suc, ◌-◌, ◌<◌, ◌≤◌, ◌⊎◌, List, [], ◌∷◌, length, get_or, Some, None, sym, refl, ap, ◌∙◌, subst, inl, inr, arith}
 use Rattle.std.proofs.lemmas.Bool.{cases_eq}
 use Rattle.model.specs.Meaning.{Graph, Meaning}
 use Rattle.model.specs.Walks.{Canonical, Sound}
 use Rattle.model.specs.Parts.{Part, whole, fragment, Proper, Holds, Apart, Clash}
-use Rattle.model.specs.Listing.{Row, row, Innermost}
-use Rattle.model.specs.History.{ok, refused, taking, History, shown, Shown, slip, ended, is_for, holder, Once, Round, Right, Answered}
+use Rattle.model.specs.Listing.{Row, row}
+use Rattle.model.specs.History.{ok, refused, taking, History, shown, Shown, slip, ended, holder, Once, Round, Right, Answered}
 use Rattle.theory.specs.Calls.{View, Meets, Take, Run, opened, nexts, restarts, finds, takes, gives, rejects, Opened, LawStands}
 use Rattle.theory.proofs.Insides.{nest}
-use Rattle.theory.proofs.Kept.{Kept, none_some, fit, meets_from, meets_clash, kept_next, kept_restart, kept_take, kept_give}
+use Rattle.std.proofs.lemmas.Option.{none-some}
+use Rattle.theory.proofs.Kept.{Kept, fit, meets_from, meets_clash, kept_next, kept_restart, kept_take, kept_give}
 
 module _ (μ : Meaning) (sound : Sound μ.graph) (v : View) (start : Opened μ v) where
   abbrev g : Graph
@@ -25,13 +26,19 @@ module _ (μ : Meaning) (sound : Sound μ.graph) (v : View) (start : Opened μ v
   After w es = Kept g v w (shown es) (slip es) (ended es) (holder es)
 
   to : (es : History) (w x : View) → x ≡ w → After w es → After x es
-  to es w x e K = subst (λ (y : View). Kept g v y (shown es) (slip es) (ended es) (holder es)) (sym e) K
+  to es w x e K = rw e K
 
   -- a granted take is clear of all rows that are out
-  take_clear : (es : History) (w x : View) (i h : ℕ) → After w es → Take w i h (ok tt) x → (i < n) × ((j k : ℕ) → holder es j ≡ Some k → Clash g (part i) (part j) → ⊥)
+  take_clear :
+      (es : History) (w x : View) (i h : ℕ) → After w es → Take w i h (ok tt) x →
+      (i < n) × ((j k : ℕ) → holder es j ≡ Some k → Clash g (part i) (part j) → ⊥)
   take_clear es w x i h K t =
-      let li : i < n = omega (arith, t.0, ap length K.rows) in
-      (li, λ j k o c. t.1 j (let l = K.out_row j k o in omega (arith, ap length K.rows)) (meets_from μ sound v start w (shown es) (slip es) (ended es) (holder es) K i j k li o c))
+      let li : i < n = omega (arith, t.0, ap length K.rows) in (
+        li,
+        λ j k o c.
+            let l = K.out_row j k o in
+            t.1 j (omega (arith, ap length K.rows)) (meets_from μ sound v start w (shown es) (slip es) (ended es) (holder es) K i j k li o c),
+      )
 
   first : After v []
   first =
@@ -44,10 +51,10 @@ module _ (μ : Meaning) (sound : Sound μ.graph) (v : View) (start : Opened μ v
         order = λ j l. absurd (omega arith);
         size = start.paired;
         marks = start.none_out;
-        out_row = λ i h e. absurd (none_some h e);
-        live = λ k s e. absurd (none_some s e);
-        alone = λ k l s t d e f e' f' x. none_some s e;
-        apart = λ i j h k d e f s x y. none_some h e;
+        out_row = λ i h e. absurd (none-some h e);
+        live = λ k s e. absurd (none-some s e);
+        alone = λ k l s t d e f e' f' x. none-some s e;
+        apart = λ i j h k d e f s x y. none-some h e;
       }
 
   kept : {es : History} {w : View} → Run v es w → After w es
@@ -56,22 +63,18 @@ module _ (μ : Meaning) (sound : Sound μ.graph) (v : View) (start : Opened μ v
   kept (nexts {es = es} {w = w} (Some y) x r t) =
       let K = kept r in
       let e : row v.rows (length (shown es)) ≡ y.1 = cc (K.rows, K.place, t.1) in
-      subst (λ (z : Row). Kept g v x (z ∷ shown es) (slip es) (ended es) (holder es)) e
-      (subst (λ (u : View). Kept g v u (row v.rows (length (shown es)) ∷ shown es) (slip es) (ended es) (holder es)) (sym t.2)
-      (kept_next μ sound v start w (shown es) (slip es) (ended es) (holder es) K (omega (arith, t.0, ap length K.rows, K.place))))
+      rw (t.2, ← e) (kept_next μ sound v start w (shown es) (slip es) (ended es) (holder es) K (omega (arith, t.0, ap length K.rows, K.place)))
   kept (restarts {es = es} {w = w} x r t) =
-      subst (λ (u : View). Kept g v u [] (slip es) (ended es) (holder es)) (sym t) (kept_restart μ sound v start w (shown es) (slip es) (ended es) (holder es) (kept r))
+      rw t (kept_restart μ sound v start w (shown es) (slip es) (ended es) (holder es) (kept r))
   kept (finds {es = es} {w = w} s (ok i) x r t) = to es w x t.2 (kept r)
   kept (finds {es = es} {w = w} s (refused a p) x r t) = to es w x t.3 (kept r)
   kept (takes {es = es} {w = w} i h (ok u) x r t) =
       let K = kept r in
       let c = take_clear es w x i h K t in
-      subst (λ (y : View). Kept g v y (shown es) (λ k. cond (eqb k (length es)) (Some (i, h)) (slip es k)) (ended es) (λ j. cond (eqb j i) (Some h) (holder es j))) (sym t.2)
-      (kept_take μ sound v start w (shown es) (slip es) (ended es) (holder es) K i h (length es) c.0 c.1)
+      rw t.2 (kept_take μ sound v start w (shown es) (slip es) (ended es) (holder es) K i h (length es) c.0 c.1)
   kept (takes {es = es} {w = w} i h (refused a p) x r t) = to es w x t.1 (kept r)
   kept (gives {es = es} {w = w} k s (ok u) x r q t) =
-      subst (λ (y : View). Kept g v y (shown es) (slip es) (λ l. eqb l k || ended es l) (λ j. cond (is_for (slip es k) j) None (holder es j))) (sym t.1)
-      (kept_give μ sound v start w (shown es) (slip es) (ended es) (holder es) (kept r) k s q.0 q.1)
+      rw t.1 (kept_give μ sound v start w (shown es) (slip es) (ended es) (holder es) (kept r) k s q.0 q.1)
   kept (gives {es = es} {w = w} k s (refused a p) x r q t) = to es w x t.3 (kept r)
   kept (rejects {es = es} {w = w} i h a p x r t) = to es w x t.3 (kept r)
 
@@ -101,11 +104,15 @@ module _ (μ : Meaning) (sound : Sound μ.graph) (v : View) (start : Opened μ v
               let s = start.listing.once (length sh - suc j) i (omega (arith, e)) l same in
               omega (arith, e)
 
-      no_more : (j : ℕ) → j < length sh → (length sh - suc j ≡ 0) ⊎ (length sh - suc j ≡ 0 → ⊥) → ((row sh j).part ≡ whole) ⊎ ((a : ℕ) × (b : ℕ) × ((row sh j).part ≡ fragment a b) × Canonical g a b)
+      no_more :
+          (j : ℕ) → j < length sh → (length sh - suc j ≡ 0) ⊎ (length sh - suc j ≡ 0 → ⊥) →
+          ((row sh j).part ≡ whole) ⊎ ((a : ℕ) × (b : ℕ) × ((row sh j).part ≡ fragment a b) × Canonical g a b)
       no_more j l (inl z) = inl (at j l ∙ ap part z ∙ start.listing.top)
       no_more j l (inr z) = pick (start.listing.canonical (length sh - suc j) (omega arith) (omega (arith, e)))
         where
-          pick : (a : ℕ) × (b : ℕ) × (part (length sh - suc j) ≡ fragment a b) × Canonical g a b → ((row sh j).part ≡ whole) ⊎ ((a : ℕ) × (b : ℕ) × ((row sh j).part ≡ fragment a b) × Canonical g a b)
+          pick :
+              (a : ℕ) × (b : ℕ) × (part (length sh - suc j) ≡ fragment a b) × Canonical g a b →
+              ((row sh j).part ≡ whole) ⊎ ((a : ℕ) × (b : ℕ) × ((row sh j).part ≡ fragment a b) × Canonical g a b)
           pick (a, b, q, c) = inr (a, b, at j l ∙ q, c)
 
   -- the newest answer is right
@@ -128,7 +135,7 @@ module _ (μ : Meaning) (sound : Sound μ.graph) (v : View) (start : Opened μ v
       let K = kept r in
       let l : s < g.steps = omega (arith, t.0, ap length K.homes, start.known) in
       let e : i ≡ get_or v.homes s 0 = cc (K.homes, t.1) in
-      (l, subst (λ (k : ℕ). Innermost g v.rows s k) (sym e) (start.homes s l))
+      (l, rw e (start.homes s l))
   right (finds {es = es} {w = w} s (refused a p) x r t) = let K = kept r in (omega (arith, t.0, ap length K.homes, start.known), t.1, t.2)
   right (takes {es = es} {w = w} i h (ok u) x r t) = let c = take_clear es w x i h (kept r) t in (c.0, λ j b. c.1 j b.0.0 b.0.1 b.1)
   right (takes {es = es} {w = w} i h (refused a p) x r t) = why t.0
@@ -136,7 +143,9 @@ module _ (μ : Meaning) (sound : Sound μ.graph) (v : View) (start : Opened μ v
       K : After w es
       K = kept r
 
-      why : ((length w.rows ≤ i) × (a ≡ 61) × (p ≡ i)) ⊎ ((i < length w.rows) × (a ≡ 62) × (p < length w.rows) × Meets w i p × ((j : ℕ) → j < p → Meets w i j → ⊥)) →
+      why :
+          ((length w.rows ≤ i) × (a ≡ 61) × (p ≡ i)) ⊎
+          ((i < length w.rows) × (a ≡ 62) × (p < length w.rows) × Meets w i p × ((j : ℕ) → j < p → Meets w i j → ⊥)) →
           Right g v.rows es (taking i h (refused a p))
       why (inl q) = inl (omega (arith, q.0, ap length K.rows), q.1, q.2)
       why (inr q) =
@@ -188,6 +197,8 @@ law_stands μ sound v start =
           };
     }
   where
-    both : (p q : Part) → (i : ℕ) × (i < length v.rows) × ((row v.rows i).part ≡ p) → (i : ℕ) × (i < length v.rows) × ((row v.rows i).part ≡ q) → Apart μ.graph p q ⊎ (Holds μ.graph p q ⊎ Holds μ.graph q p)
+    both :
+        (p q : Part) → (i : ℕ) × (i < length v.rows) × ((row v.rows i).part ≡ p) → (i : ℕ) × (i < length v.rows) × ((row v.rows i).part ≡ q) →
+        Apart μ.graph p q ⊎ (Holds μ.graph p q ⊎ Holds μ.graph q p)
     both p q i j =
         nest μ.graph sound p q (subst (Proper μ.graph) i.2 (fit μ sound v start i.0 i.1)) (subst (Proper μ.graph) j.2 (fit μ sound v start j.0 j.1))

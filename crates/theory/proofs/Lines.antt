@@ -1,5 +1,5 @@
 -- The links of a class stand in a line, and the fragments between neighbours have no step in common.
-use Rattle.std.proofs.Common.{◌≡◌, ℕ, ◌<◌, Bool, true, false, not, ◌≢◌, ◌⊎◌, List, [], ◌∷◌, ◌++◌, length, sym, refl, ap, ◌∙◌, subst, inl, inr, arith}
+use Rattle.std.proofs.Common.{◌≡◌, ℕ, ◌<◌, Bool, true, false, not, ◌≢◌, ◌⊎◌, List, ◌∷◌, ◌++◌, length, sym, refl, ap, ◌∙◌, subst, inl, inr, arith}
 use mathlib.Core.Logic.{∥∥₁_elim}
 use mathlib.Core.HLevel.{⊥_prop}
 use Rattle.std.proofs.lemmas.Bool.{cases_eq, cases_Bool, both_ways, not-true}
@@ -8,7 +8,7 @@ use Rattle.model.specs.Walks.{Links, closed, Walks, Passes, Share, Leads, Single
 use Rattle.theory.specs.Tests.{reach}
 use Rattle.theory.specs.Cuts.{Cut}
 use Rattle.theory.specs.Orders.{ClassInLine}
-use Rattle.theory.proofs.Walks.{Avoids, avoids_no, no_avoids, passes?, avoids_append, passes_left, passes_right, walks_append, split, until}
+use Rattle.theory.proofs.Walks.{Avoids, avoids_no, no_avoids, passes?, avoids_append, passes_left, walks_append, split, leader_passed, led_avoided}
 use Rattle.theory.proofs.Cuts.{stays, cut_keeps, flip}
 use Rattle.theory.proofs.Cutting.{share_reach}
 use Rattle.theory.proofs.Sides.{share_sym, share_trans}
@@ -59,10 +59,9 @@ module _ (g : Graph) (sound : Sound g) where
 
       joined : (ks : List ℕ) → Walks g.links g.first ks x → (js : List ℕ) → Walks g.links (head_of g.links a) js s → (Passes b js → ⊥) → ⊥
       joined ks w js r h =
-          let u = until g.links g.first a ks w in
-          let front : Avoids b u.0 = no_avoids b u.0 (λ p. avoids_no a u.0 u.2 (leads.3 x u.0 u.1 p)) in
+          let u = led_avoided g a b leads ks w in
           none (u.0 ++ (a ∷ js)) (walks_append g.links g.first x s u.0 (a ∷ js) u.1 (leads.1, refl, r))
-          (avoids_append b u.0 (a ∷ js) front (leads.0, no_avoids b js h))
+          (avoids_append b u.0 (a ∷ js) u.3 (leads.0, no_avoids b js h))
 
   -- a pair that stands before another
   behind : (a b c d : ℕ) → SingleEntryExit g a b → SingleEntryExit g c d → (b ≡ c) ⊎ Leads g b c → (s : ℕ) → Inside g a b s → Inside g c d s → ⊥
@@ -79,17 +78,10 @@ module _ (g : Graph) (sound : Sound g) where
 
   -- of two links that lead each other one would have to come first
   pub not_both : (a b : ℕ) → Leads g a b → Leads g b a → ⊥
-  not_both a b l r = ∥∥₁_elim (sound.between (tail_of g.links a) (sound.within a l.1).0) ⊥_prop (λ p. none p.0 p.2)
-    where
-      x : ℕ
-      x = tail_of g.links a
-
-      none : (ks : List ℕ) → Walks g.links g.first ks (tail_of g.links a) → ⊥
-      none ks w =
-          let u = until g.links g.first a ks w in
-          let front : Avoids b u.0 = no_avoids b u.0 (λ p. avoids_no a u.0 u.2 (l.3 x u.0 u.1 p)) in
-          avoids_no b (u.0 ++ (a ∷ [])) (avoids_append b u.0 (a ∷ []) front (l.0, tt))
-          (r.3 (head_of g.links a) (u.0 ++ (a ∷ [])) (walks_append g.links g.first x (head_of g.links a) u.0 (a ∷ []) u.1 (l.1, refl, refl)) (passes_right a u.0 (a ∷ []) (inl refl)))
+  not_both a b l r =
+      ∥∥₁_elim (sound.between (tail_of g.links a) (sound.within a l.1).0) ⊥_prop (λ p.
+      let u = led_avoided g a b l p.0 p.2 in
+      avoids_no b u.0 u.3 (leader_passed g b a r u.0 u.1))
 
   -- a leads c in one class: then the exit b of a stands before c, or is c
   next : (a b c : ℕ) → Canonical g a b → c < length g.links → Share (closed g) a c → Leads g a c → (b ≡ c) ⊎ Leads g b c

@@ -1,6 +1,6 @@
 -- The sets of two pairs that do not share are apart, or one lies in the other.
-use Rattle.std.proofs.Common.{◌≡◌, ℕ, ◌<◌, Bool, true, false, not, ◌&&◌, ◌⊎◌, length, sym, refl, ap, ◌∙◌, subst, ap₂, inl, inr}
-use Rattle.std.proofs.lemmas.Bool.{cases_eq, cases_Bool, and_left, and_right, and_from}
+use Rattle.std.proofs.Common.{◌≡◌, ℕ, ◌<◌, Bool, true, false, not, ◌&&◌, ◌⊎◌, length, sym, refl, ap, ◌∙◌, ap₂, inl, inr, arith, ◌≢◌}
+use Rattle.std.proofs.lemmas.Bool.{cases_eq, cases_Bool, and_left, and_right, and_from, true_from_ne_false}
 use Rattle.model.specs.Meaning.{tail_of, head_of, EndsBelow}
 use Rattle.model.specs.Walks.{Links, Share}
 use Rattle.theory.specs.Cuts.{Strong, Cut}
@@ -62,23 +62,18 @@ module _ (G : Links) (n a b c d : ℕ) (S T : ℕ → Bool) (within : EndsBelow 
       Still : ℕ → Type 0
       Still j = quarter P Q (tail_of G j) ≡ quarter P Q (head_of G j)
 
-      by_T : (j : ℕ) → k ≡ j → T (tail_of G j) ≡ T (head_of G j) → (Q (T (tail_of G j)) ≡ false) ⊎ ((j ≡ x) ⊎ (j ≡ y)) → Still k
-      by_T j e t (inl q) =
-          subst Still (sym e) (and_right (P (S (tail_of G j))) (Q (T (tail_of G j))) q ∙ sym (and_right (P (S (head_of G j))) (Q (T (head_of G j))) (ap Q (sym t) ∙ q)))
-      by_T j e t (inr (inl f)) = absurd (nx (e ∙ f))
-      by_T j e t (inr (inr f)) = absurd (ny (e ∙ f))
+      -- a link that does not cross T, with its ends outside Q of T, does not cross the quarter; likewise for S
+      by_T : (j : ℕ) → T (tail_of G j) ≡ T (head_of G j) → (Q (T (tail_of G j)) ≡ false) ⊎ ((j ≡ x) ⊎ (j ≡ y)) → j ≢ x → j ≢ y → Still j
+      by_T j t q p r = let e = ap Q t in grind arith
 
-      by_S : (j : ℕ) → k ≡ j → S (tail_of G j) ≡ S (head_of G j) → (P (S (tail_of G j)) ≡ false) ⊎ ((j ≡ x) ⊎ (j ≡ y)) → Still k
-      by_S j e s (inl q) =
-          subst Still (sym e) (and_left (P (S (tail_of G j))) (Q (T (tail_of G j))) q ∙ sym (and_left (P (S (head_of G j))) (Q (T (head_of G j))) (ap P (sym s) ∙ q)))
-      by_S j e s (inr (inl f)) = absurd (nx (e ∙ f))
-      by_S j e s (inr (inr f)) = absurd (ny (e ∙ f))
+      by_S : (j : ℕ) → S (tail_of G j) ≡ S (head_of G j) → (P (S (tail_of G j)) ≡ false) ⊎ ((j ≡ x) ⊎ (j ≡ y)) → j ≢ x → j ≢ y → Still j
+      by_S j s q p r = let e = ap P s in grind arith
 
       pick : (k ≡ a) ⊎ (k ≡ a → ⊥) → (k ≡ b) ⊎ (k ≡ b → ⊥) → (k ≡ c) ⊎ (k ≡ c → ⊥) → (k ≡ d) ⊎ (k ≡ d → ⊥) → Still k
-      pick (inl e) eb ec ed = by_T a e Ta ha
-      pick (inr na) (inl e) ec ed = by_T b e Tb hb
-      pick (inr na) (inr nb) (inl e) ed = by_S c e Sc hc
-      pick (inr na) (inr nb) (inr nc) (inl e) = by_S d e Sd hd
+      pick (inl e) eb ec ed = rw e (by_T a Ta ha (rw e at nx) (rw e at ny))
+      pick (inr na) (inl e) ec ed = rw e (by_T b Tb hb (rw e at nx) (rw e at ny))
+      pick (inr na) (inr nb) (inl e) ed = rw e (by_S c Sc hc (rw e at nx) (rw e at ny))
+      pick (inr na) (inr nb) (inr nc) (inl e) = rw e (by_S d Sd hd (rw e at nx) (rw e at ny))
       pick (inr na) (inr nb) (inr nc) (inr nd) = ap₂ (λ (s t : Bool). P s && Q t) (c_s.others k l na nb) (c_t.others k l nc nd)
 
   Goal : Type 0
@@ -90,28 +85,24 @@ module _ (G : Links) (n a b c d : ℕ) (S T : ℕ → Bool) (within : EndsBelow 
       lone G n within strong (quarter same same) e (λ k l p. only k l p p) v z l lz (and_from (S v) (T v) s t) (and_left (S z) (T z) sz)
 
   left_empty : (e : ℕ) → NoOther G (quarter same not) e e → Subset n S T
-  left_empty e only v l s = pick (cases_Bool (T v))
-    where
-      pick : (T v ≡ true) ⊎ (T v ≡ false) → T v ≡ true
-      pick (inl t) = t
-      pick (inr t) =
-          absurd (lone G n within strong (quarter same not) e (λ k l p. only k l p p) v z l lz (and_from (S v) (not (T v)) s (ap not t)) (and_left (S z) (not (T z)) sz))
+  left_empty e only v l s =
+      true_from_ne_false (T v) (λ t.
+      lone G n within strong (quarter same not) e (λ k l p. only k l p p) v z l lz (and_from (S v) (not (T v)) s (ap not t)) (and_left (S z) (not (T z)) sz))
 
   right_empty : (e : ℕ) → NoOther G (quarter not same) e e → Subset n T S
-  right_empty e only v l t = pick (cases_Bool (S v))
-    where
-      pick : (S v ≡ true) ⊎ (S v ≡ false) → S v ≡ true
-      pick (inl s) = s
-      pick (inr s) =
-          absurd (lone G n within strong (quarter not same) e (λ k l p. only k l p p) v z l lz (and_from (not (S v)) (T v) (ap not s) t) (and_right (not (S z)) (T z) tz))
+  right_empty e only v l t =
+      true_from_ne_false (S v) (λ s.
+      lone G n within strong (quarter not same) e (λ k l p. only k l p p) v z l lz (and_from (not (S v)) (T v) (ap not s) t) (and_right (not (S z)) (T z) tz))
 
   all_out : (e : ℕ) → NoOther G (quarter not not) e e → Subset n S T
   all_out e only v l s =
-      absurd (lone G n within strong (quarter not not) e (λ k l p. only k l p p) z v lz l (and_from (not (S z)) (not (T z)) (ap not sz) (ap not tz)) (and_left (not (S v)) (not (T v)) (ap not s)))
+      absurd (lone G n within strong (quarter not not) e (λ k l p. only k l p p) z v lz l (and_from (not (S z)) (not (T z)) (ap not sz) (ap not tz))
+      (and_left (not (S v)) (not (T v)) (ap not s)))
 
   -- a step of both and z: the two links that cross the meet share
   meet_share : (x y : ℕ) → NoOther G (quarter same same) x y → (v : ℕ) → v < n → S v ≡ true → T v ≡ true → Share G x y
-  meet_share x y only v l s t = two_share G n within strong (quarter same same) x y only v z l lz (and_from (S v) (T v) s t) (and_left (S z) (T z) sz)
+  meet_share x y only v l s t =
+      two_share G n within strong (quarter same same) x y only v z l lz (and_from (S v) (T v) s t) (and_left (S z) (T z) sz)
 
   nested_by : (T (tail_of G a) ≡ true) ⊎ (T (tail_of G a) ≡ false) → (T (tail_of G b) ≡ true) ⊎ (T (tail_of G b) ≡ false) →
       (S (tail_of G c) ≡ true) ⊎ (S (tail_of G c) ≡ false) → (S (tail_of G d) ≡ true) ⊎ (S (tail_of G d) ≡ false) → Goal

@@ -3,7 +3,7 @@ use Rattle.std.proofs.Common.{◌≡◌, ℕ, zero, suc, ◌<◌, ◌⊎◌, ◌
 use Rattle.model.specs.Meaning.{Graph, tail_of, head_of}
 use Rattle.model.specs.Walks.{closed, Walks, Passes, Share, Leads, Canonical, Sound}
 use Rattle.theory.specs.Orders.{SearchOrder, link_at, Neighbours, LeaderFirst, FragmentsNeighbours}
-use Rattle.theory.proofs.Walks.{passes_append, passes_right, walks_append}
+use Rattle.theory.proofs.Walks.{passes_append, walks_append, leader_passed}
 use Rattle.theory.proofs.Sides.{share_sym, share_trans}
 use Rattle.theory.proofs.Lines.{line}
 
@@ -20,7 +20,9 @@ module _ (g : Graph) (order : List ℕ) (found : SearchOrder g order) where
       Way : ℕ → Type 0
       Way i = (ks : List ℕ) × Walks g.links g.first ks (tail_of g.links (link_at order i)) × Earlier order i ks
 
-      pick : (tail_of g.links (link_at order i) ≡ g.first) ⊎ ((j : ℕ) × (j < i) × (head_of g.links (link_at order j) ≡ tail_of g.links (link_at order i))) →
+      pick :
+          (tail_of g.links (link_at order i) ≡ g.first) ⊎
+          ((j : ℕ) × (j < i) × (head_of g.links (link_at order j) ≡ tail_of g.links (link_at order i))) →
           ((j : ℕ) → j < i → (ks : List ℕ) × Walks g.links g.first ks (tail_of g.links (link_at order j)) × Earlier order j ks) → Way i
       pick (inl e) more = ([], sym e, λ k p. absurd p)
       pick (inr (j, lj, e)) more =
@@ -31,22 +33,18 @@ module _ (g : Graph) (order : List ℕ) (found : SearchOrder g order) where
             λ x p. earlier w.0 x w.2 (passes_append x w.0 (k ∷ []) p),
           )
         where
-          earlier : (ks : List ℕ) (x : ℕ) → Earlier order j ks → Passes x ks ⊎ Passes x (link_at order j ∷ []) → (h : ℕ) × (h < i) × (link_at order h ≡ x)
+          earlier :
+              (ks : List ℕ) (x : ℕ) → Earlier order j ks → Passes x ks ⊎ Passes x (link_at order j ∷ []) → (h : ℕ) × (h < i) × (link_at order h ≡ x)
           earlier ks x old (inl p) = let h = old x p in (h.0, omega (arith, h.1), h.2)
           earlier ks x old (inr (inl q)) = (j, lj, sym q)
           earlier ks x old (inr (inr q)) = absurd q
 
   pub first : (i j : ℕ) → i < length order → j < length order → Leads g (link_at order i) (link_at order j) → i < j
   first i j li lj l =
-      let b = link_at order j in
       let w = way (suc j) j (omega arith) lj in
-      let p = l.3 (head_of g.links b) (w.0 ++ (b ∷ [])) (walks_append g.links g.first (tail_of g.links b) (head_of g.links b) w.0 (b ∷ []) w.1 (l.2, refl, refl)) (passes_right b w.0 (b ∷ []) (inl refl)) in
-      pick w.0 w.2 (passes_append (link_at order i) w.0 (b ∷ []) p)
-    where
-      pick : (ks : List ℕ) → Earlier order j ks → Passes (link_at order i) ks ⊎ Passes (link_at order i) (link_at order j ∷ []) → i < j
-      pick ks old (inl p) = let h = old (link_at order i) p in let e = found.once h.0 i (omega (arith, h.1)) li h.2 in omega (arith, h.1)
-      pick ks old (inr (inl q)) = absurd (l.0 q)
-      pick ks old (inr (inr q)) = absurd q
+      let h = w.2 (link_at order i) (leader_passed g (link_at order i) (link_at order j) l w.0 w.1) in
+      let e = found.once h.0 i (omega (arith, h.1)) li h.2 in
+      omega (arith, h.1)
 
   module _ (sound : Sound g) where
     -- of two links of a class the earlier one leads

@@ -1,17 +1,18 @@
 -- Canonical fragments, what is inside them, and how many, by computing.
-use Rattle.std.proofs.Common.{◌≡◌, ℕ, ◌<◌, Bool, true, false, not, ◌&&◌, ◌||◌, eqb, ltb, ◌⊎◌, List, [], ◌∷◌, ◌++◌, length, sym, refl, subst, inl, inr, arith}
-use Rattle.std.proofs.lemmas.Bool.{both_ways, and_parts, and_from, not-true, not_from_false, eqb-true, eq-eqb, eqb-false, ne_eqb, ltb-true, lt-ltb}
+use Rattle.std.proofs.Common.{◌≡◌, ℕ, ◌<◌, Bool, true, false, not, ◌&&◌, ◌||◌, eqb, ltb, List, ◌∷◌, length, sym, refl, subst, arith, Decides}
+use Rattle.std.proofs.lemmas.Bool.Decides.{nat_tests}
+use Rattle.std.proofs.lemmas.Bool.{both_ways, and_parts, and_from, not-true, not_from_false, eqb-true, eq-eqb, eqb-false, ltb-true, lt-ltb, false_from_ne_true}
 use Rattle.model.specs.Meaning.{Graph, tail_of, head_of}
-use Rattle.model.specs.Walks.{Links, closed, Walks, Passes, Share, Leads, Canonical, Sound}
+use Rattle.model.specs.Walks.{closed, Walks, Passes, Share, Leads, Canonical, Sound}
 use Rattle.model.specs.Parts.{Part, whole, fragment, In, Proper, Holds, how_many, Exactly, Counted}
 use Rattle.theory.specs.Tests.{reach, shareb, each_below}
-use Rattle.theory.proofs.Walks.{Avoids, avoids_no, passes?, avoids_append, passes_left, passes_right, walks_append, split}
-use Rattle.theory.proofs.Reach.{reach_walk, walk_reach}
+use Rattle.theory.proofs.Walks.{avoids_no, passes_left, split, leader_passed}
+use Rattle.theory.proofs.Reach.{reach_walk, passes_by}
 use Rattle.theory.proofs.Decide.{share_decided}
 use Rattle.theory.proofs.Plans.{more, closed_within}
 use Rattle.theory.proofs.Insides.{decided, step}
 use Rattle.theory.proofs.Counting.{exactly_le}
-use Rattle.theory.proofs.Tells.{Tells, t_no, t_imp, each_at, each_from, t_each}
+use Rattle.theory.proofs.Tells.{t_imp, each_at, each_from, t_each}
 
 unfoldable pub leadsb : Graph → ℕ → ℕ → Bool
 leadsb g a b = not (eqb a b) && (ltb a (length g.links) && (ltb b (length g.links) && not (reach g.links g.steps a g.first (tail_of g.links b))))
@@ -33,10 +34,15 @@ unfoldable pub size : Graph → Part → ℕ
 size g p = how_many (inb g p) g.steps
 
 module _ (g : Graph) (sound : Sound g) where
-  G : Links
-  G = g.links
+  -- a walk that comes round a does not reach b
+  through : (a b : ℕ) → reach g.links g.steps a g.first (tail_of g.links b) ≡ false →
+      (v : ℕ) (ks : List ℕ) → Walks g.links g.first ks v → Passes b ks → Passes a ks
+  through a b out v ks w p =
+      let s = split g.links g.first v b ks w p in
+      let p = passes_by g.links a g.steps g.first (tail_of g.links b) sound.within sound.begins out s.before s.to in
+      subst (Passes a) (sym s.is) (passes_left a s.before (b ∷ s.after) p)
 
-  pub t_leads : (a b : ℕ) → Tells (leadsb g a b) (Leads g a b)
+  pub t_leads : (a b : ℕ) → Decides (leadsb g a b) (Leads g a b)
   unfolding leadsb
   t_leads a b = (there, back)
     where
@@ -48,46 +54,28 @@ module _ (g : Graph) (sound : Sound g) where
           let p = and_parts (not (eqb a b)) (ltb a (length g.links) && (ltb b (length g.links) && not r)) e in
           let q = and_parts (ltb a (length g.links)) (ltb b (length g.links) && not r) p.1 in
           let s = and_parts (ltb b (length g.links)) (not r) q.1 in
-          let lb = ltb-true b (length g.links) s.0 in
-          (eqb-false a b (not-true (eqb a b) p.0), ltb-true a (length g.links) q.0, lb, through (not-true r s.1))
-        where
-          through : r ≡ false → (v : ℕ) (ks : List ℕ) → Walks g.links g.first ks v → Passes b ks → Passes a ks
-          through out v ks w p =
-              let s = split g.links g.first v b ks w p in
-              pick s.before s.after s.is s.to (passes? a s.before)
-            where
-              pick : (before after : List ℕ) → ks ≡ before ++ (b ∷ after) → Walks g.links g.first before (tail_of g.links b) → Passes a before ⊎ Avoids a before → Passes a ks
-              pick before after is to (inl q) = subst (Passes a) (sym is) (passes_left a before (b ∷ after) q)
-              pick before after is to (inr h) = absurd (both_ways r out (walk_reach g.links a g.steps g.first (tail_of g.links b) sound.within sound.begins (before, to, h)))
+          (eqb-false a b (not-true (eqb a b) p.0), ltb-true a (length g.links) q.0, ltb-true b (length g.links) s.0, through a b (not-true r s.1))
 
       none : Leads g a b → r ≡ true → ⊥
       none l e =
           let w = reach_walk g.links a g.steps g.first (tail_of g.links b) e in
-          avoids_no a (w.0 ++ (b ∷ [])) (avoids_append a w.0 (b ∷ []) w.2 (λ q. l.0 (sym q), tt))
-          (l.3 (head_of g.links b) (w.0 ++ (b ∷ [])) (walks_append g.links g.first (tail_of g.links b) (head_of g.links b) w.0 (b ∷ []) w.1 (l.2, refl, refl)) (passes_right b w.0 (b ∷ []) (inl refl)))
+          avoids_no a w.0 w.2 (leader_passed g a b l w.0 w.1)
 
       back : Leads g a b → (not (eqb a b) && (ltb a (length g.links) && (ltb b (length g.links) && not r))) ≡ true
-      back l =
-          and_from (not (eqb a b)) (ltb a (length g.links) && (ltb b (length g.links) && not r)) (not_from_false (eqb a b) (ne_eqb a b l.0))
-          (and_from (ltb a (length g.links)) (ltb b (length g.links) && not r) (lt-ltb a (length g.links) l.1)
-          (and_from (ltb b (length g.links)) (not r) (lt-ltb b (length g.links) l.2) (not_from_false r (t_no r (r ≡ true) (λ e. e, λ e. e) (none l)))))
+      back l = let out = false_from_ne_true r (none l) in grind (arith, nat_tests)
 
-  pub t_share : (a b : ℕ) → a < length g.links → b < length g.links → Tells (shareb (closed g) g.steps a b) (Share (closed g) a b)
+  pub t_share : (a b : ℕ) → a < length g.links → b < length g.links → Decides (shareb (closed g) g.steps a b) (Share (closed g) a b)
   t_share a b la lb = share_decided (closed g) g.steps a b (closed_within g sound) (omega (arith, more g)) (omega (arith, more g))
 
-  t_third : (a b x : ℕ) → Tells (thirdb g a b x) (Leads g a x × Leads g x b × Share (closed g) a x)
+  t_third : (a b x : ℕ) → Decides (thirdb g a b x) (Leads g a x × Leads g x b × Share (closed g) a x)
   unfolding thirdb
-  t_third a b x = (
-    λ e.
-        let p = and_parts (leadsb g a x) (leadsb g x b && shareb (closed g) g.steps a x) e in
-        let q = and_parts (leadsb g x b) (shareb (closed g) g.steps a x) p.1 in
-        let l = (t_leads a x).0 p.0 in
-        (l, (t_leads x b).0 q.0, (t_share a x l.1 l.2).0 q.1),
-    λ h. and_from (leadsb g a x) (leadsb g x b && shareb (closed g) g.steps a x) ((t_leads a x).1 h.0)
-        (and_from (leadsb g x b) (shareb (closed g) g.steps a x) ((t_leads x b).1 h.1) ((t_share a x h.0.1 h.0.2).1 h.2)),
-  )
+  t_third a b x =
+      let l = t_leads a x in
+      let m = t_leads x b in
+      let s : a < length g.links → x < length g.links → Decides (shareb (closed g) g.steps a x) (Share (closed g) a x) = t_share a x in
+      grind arith
 
-  pub t_canonical : (a b : ℕ) → Tells (canonicalb g a b) (Canonical g a b)
+  pub t_canonical : (a b : ℕ) → Decides (canonicalb g a b) (Canonical g a b)
   unfolding canonicalb
   t_canonical a b = (there, back)
     where
@@ -104,7 +92,8 @@ module _ (g : Graph) (sound : Sound g) where
           let l = (t_leads a b).0 p.0 in
           record {
             pair = record { shares = (t_share a b l.1 l.2).0 q.0; leads = l };
-            no_third = λ x s u v. both_ways (thirdb g a b x) (not-true (thirdb g a b x) (each_at (λ x. not (thirdb g a b x)) (length g.links) q.1 x u.2)) ((t_third a b x).1 (u, v, s));
+            no_third = λ x s u v.
+                both_ways (thirdb g a b x) (not-true (thirdb g a b x) (each_at (λ x. not (thirdb g a b x)) (length g.links) q.1 x u.2)) ((t_third a b x).1 (u, v, s));
           }
 
       back : Canonical g a b → (leadsb g a b && (sh && th)) ≡ true
@@ -112,20 +101,23 @@ module _ (g : Graph) (sound : Sound g) where
           and_from (leadsb g a b) (sh && th) ((t_leads a b).1 c.pair.leads)
           (and_from sh th ((t_share a b c.pair.leads.1 c.pair.leads.2).1 c.pair.shares)
           (each_from (λ x. not (thirdb g a b x)) (length g.links)
-          (λ x l. not_from_false (thirdb g a b x) (t_no (thirdb g a b x) (Leads g a x × Leads g x b × Share (closed g) a x) (t_third a b x) (λ h. c.no_third x h.2 h.0 h.1)))))
+          (λ x l. not_from_false (thirdb g a b x) (false_from_ne_true (thirdb g a b x) (λ e.
+          let h = (t_third a b x).0 e in
+          c.no_third x h.2 h.0 h.1)))))
 
-  pub t_in : (p : Part) → Proper g p → (s : ℕ) → Tells (inb g p s) (In g p s)
+  pub t_in : (p : Part) → Proper g p → (s : ℕ) → Decides (inb g p s) (In g p s)
   unfolding inb
   t_in whole c s = (ltb-true s g.steps, lt-ltb s g.steps)
   t_in (fragment a b) c s = let d = decided g sound a b c.pair s in (d.1, d.0)
 
-  pub t_holds : (p q : Part) → Proper g p → Proper g q → Tells (holdsb g p q) (Holds g p q)
+  pub t_holds : (p q : Part) → Proper g p → Proper g q → Decides (holdsb g p q) (Holds g p q)
   unfolding holdsb
   t_holds p q cp cq =
-      t_each (λ s. not (inb g q s) || inb g p s) g.steps (In g q) (In g p) (step g sound q cq) (λ s l. t_imp (inb g q s) (inb g p s) (In g q s) (In g p s) (t_in q cq s) (t_in p cp s))
+      t_each (λ s. not (inb g q s) || inb g p s) g.steps (In g q) (In g p) (step g sound q cq)
+      (λ s l. t_imp (inb g q s) (inb g p s) (In g q s) (In g p s) (t_in q cq s) (t_in p cp s))
 
 -- a count, given a test
-pub t_exactly : (t : ℕ → Bool) (n k : ℕ) (P : ℕ → Type 0) → ((s : ℕ) → s < n → Tells (t s) (P s)) → Tells (eqb (how_many t n) k) (Exactly k n P)
+pub t_exactly : (t : ℕ → Bool) (n k : ℕ) (P : ℕ → Type 0) → ((s : ℕ) → s < n → Decides (t s) (P s)) → Decides (eqb (how_many t n) k) (Exactly k n P)
 t_exactly t n k P h = (
   λ e. (t, h, eqb-true (how_many t n) k e),
   λ x. let a = exactly_le n (how_many t n) k P P (t, h, refl) x (λ s _ i. i) in
@@ -133,6 +125,6 @@ t_exactly t n k P h = (
       eq-eqb (how_many t n) k (omega arith),
 )
 
-pub t_size : (g : Graph) → Sound g → (p : Part) → Proper g p → (k : ℕ) → Tells (eqb (size g p) k) (Counted g p k)
+pub t_size : (g : Graph) → Sound g → (p : Part) → Proper g p → (k : ℕ) → Decides (eqb (size g p) k) (Counted g p k)
 unfolding size
 t_size g sound p c k = t_exactly (inb g p) g.steps k (In g p) (λ s l. t_in g sound p c s)

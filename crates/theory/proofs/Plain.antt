@@ -1,7 +1,7 @@
 -- A step that does not branch is alone in a fragment.
-use Rattle.std.proofs.Common.{◌≡◌, ℕ, zero, suc, ◌+◌, ◌<◌, ◌≤◌, Bool, true, cond, eqb, ◌≢◌, ◌⊎◌, ◌↔◌, List, [], ◌∷◌, ◌++◌, length, sym, refl, ap, ◌∙◌, subst, inl, inr, arith}
+use Rattle.std.proofs.Common.{◌≡◌, ℕ, zero, suc, ◌<◌, ◌≤◌, Bool, true, eqb, ◌≢◌, ◌⊎◌, ◌↔◌, List, [], ◌∷◌, ◌++◌, length, sym, refl, ap, ◌∙◌, subst, inl, inr, arith}
+use Rattle.std.proofs.Math.Nat.{ℕ_set}
 use mathlib.Core.Logic.{∥∥₁_elim, ∥∥₁_map}
-use mathlib.Core.HLevel.{⊥_prop}
 use Rattle.std.proofs.lemmas.Bool.{cases_eq, cases_lt, eq-eqb, ne_eqb}
 use Rattle.model.specs.Meaning.{Graph, tail_of, head_of}
 use Rattle.model.specs.Walks.{Links, closed, Walks, Passes, Share, Leads, Canonical, Inside, Sound}
@@ -21,34 +21,25 @@ use Rattle.theory.proofs.Counting.{exactly_all}
 -- one that passes is counted, and where at most one is counted, two that pass are one
 counted : (t : ℕ → Bool) (n k : ℕ) → k < n → t k ≡ true → 1 ≤ how_many t n
 counted t zero k l e = absurd (omega arith)
-counted t (suc n) k l e = pick (cases_eq k n) (λ l'. counted t n k l' e)
-  where
-    pick : (k ≡ n) ⊎ (k ≡ n → ⊥) → (k < n → 1 ≤ how_many t n) → 1 ≤ cond (t n) 1 0 + how_many t n
-    pick (inl q) ih = rw (ap t (sym q) ∙ e) (omega arith)
-    pick (inr d) ih = let h = ih (omega arith) in omega arith
+counted t (suc n) k l e = let rest = counted t n k in grind (arith, cases_eq k n)
 
 single : (t : ℕ → Bool) (n : ℕ) → how_many t n ≤ 1 → (i j : ℕ) → i < n → j < n → t i ≡ true → t j ≡ true → i ≡ j
 single t zero few i j li lj e f = absurd (omega arith)
-single t (suc n) few i j li lj e f = pick (cases_eq i n) (cases_eq j n) (λ l k. single t n (omega arith) i j l k e f)
-  where
-    last : (k : ℕ) → t n ≡ true → k < n → t k ≡ true → ⊥
-    last k top l q = let c = counted t n k l q in let few' : 1 + how_many t n ≤ 1 = subst (λ (x : Bool). cond x 1 0 + how_many t n ≤ 1) top few in omega arith
-
-    pick : (i ≡ n) ⊎ (i ≡ n → ⊥) → (j ≡ n) ⊎ (j ≡ n → ⊥) → (i < n → j < n → i ≡ j) → i ≡ j
-    pick (inl p) (inl q) ih = p ∙ sym q
-    pick (inl p) (inr d) ih = absurd (last j (ap t (sym p) ∙ e) (omega arith) f)
-    pick (inr d) (inl q) ih = absurd (last i (ap t (sym q) ∙ f) (omega arith) e)
-    pick (inr d) (inr d') ih = ih (omega arith) (omega arith)
+single t (suc n) few i j li lj e f =
+    let ci = counted t n i in
+    let cj = counted t n j in
+    let rest = single t n (omega arith) i j in
+    grind (arith, cases_eq i n, cases_eq j n)
 
 -- the last link of a walk, and the first
 last_link : (G : Links) (u v : ℕ) (ks : List ℕ) → Walks G u ks v → u ≢ v → (k : ℕ) × (k < length G) × (head_of G k ≡ v) × Passes k ks
 last_link G u v [] w d = absurd (d w)
-last_link G u v (k ∷ ks) w d = pick (cases_eq (head_of G k) v) (λ n. last_link G (head_of G k) v ks w.2 n)
+last_link G u v (k ∷ ks) w d = pick (cases_eq (head_of G k) v) (last_link G (head_of G k) v ks w.2)
   where
     pick : (head_of G k ≡ v) ⊎ (head_of G k ≡ v → ⊥) → (head_of G k ≢ v → (j : ℕ) × (j < length G) × (head_of G j ≡ v) × Passes j ks) →
         (j : ℕ) × (j < length G) × (head_of G j ≡ v) × Passes j (k ∷ ks)
-    pick (inl e) more = (k, w.0, e, inl refl)
-    pick (inr n) more = let r = more n in (r.0, r.1, r.2, inr r.3)
+    pick (inl e) rest = (k, w.0, e, inl refl)
+    pick (inr n) rest = let r = rest n in (r.0, r.1, r.2, inr r.3)
 
 first_link : (G : Links) (u v : ℕ) (ks : List ℕ) → Walks G u ks v → u ≢ v → (k : ℕ) × (k < length G) × (tail_of G k ≡ u)
 first_link G u v [] w d = absurd (d w)
@@ -59,18 +50,10 @@ module _ (g : Graph) (sound : Sound g) (s : ℕ) (ls : s < g.steps) (not_first :
   G = g.links
 
   few_in : ins g s ≤ 1
-  few_in = pick (cases_lt (ins g s) 2)
-    where
-      pick : (ins g s < 2) ⊎ (2 ≤ ins g s) → ins g s ≤ 1
-      pick (inl l) = omega arith
-      pick (inr l) = absurd (plain (inl l))
+  few_in = let p : (2 ≤ ins g s) → ⊥ = λ l. plain (inl l) in omega arith
 
   few_out : outs g s ≤ 1
-  few_out = pick (cases_lt (outs g s) 2)
-    where
-      pick : (outs g s < 2) ⊎ (2 ≤ outs g s) → outs g s ≤ 1
-      pick (inl l) = omega arith
-      pick (inr l) = absurd (plain (inr l))
+  few_out = let p : (2 ≤ outs g s) → ⊥ = λ l. plain (inr l) in omega arith
 
   to : (ks : List ℕ) × Walks g.links g.first ks s
   to = walk_of g.links g.steps g.first s sound.within sound.begins (∥∥₁_map (sound.between s ls) (λ p. (p.0, p.2)))
@@ -122,7 +105,9 @@ module _ (g : Graph) (sound : Sound g) (s : ℕ) (ls : s < g.steps) (not_first :
       both : (x y : ℕ) → x ≢ s → y ≢ s → eqb x s ≡ eqb y s
       both x y p q = ne_eqb x s p ∙ sym (ne_eqb y s q)
 
-      still : (k : ℕ) → k < length (closed g) → k ≢ entry.0 → k ≢ exit.0 → (k ≡ length g.links) ⊎ (k ≡ length g.links → ⊥) → eqb (tail_of (closed g) k) s ≡ eqb (head_of (closed g) k) s
+      still :
+          (k : ℕ) → k < length (closed g) → k ≢ entry.0 → k ≢ exit.0 → (k ≡ length g.links) ⊎ (k ≡ length g.links → ⊥) →
+          eqb (tail_of (closed g) k) s ≡ eqb (head_of (closed g) k) s
       still k l na nb (inl e) =
           both (tail_of (closed g) k) (head_of (closed g) k) (λ q. not_last (sym q ∙ ap (tail_of (closed g)) e ∙ back_tail g)) (λ q. not_first (sym q ∙ ap (head_of (closed g)) e ∙ back_head g))
       still k l na nb (inr d) =
@@ -154,7 +139,9 @@ module _ (g : Graph) (sound : Sound g) (s : ℕ) (ls : s < g.steps) (not_first :
           walks_append g.links g.first t h u.0 (a ∷ b ∷ []) u.1 (entry.1, refl, (exit.1, exit.2 ∙ sym entry.2, refl)) in
           where_is u.0 u.1 u.2 (passes_append x u.0 (a ∷ b ∷ []) (r.3 h (u.0 ++ (a ∷ b ∷ [])) w (passes_right b u.0 (a ∷ b ∷ []) (inr (inl refl)))))
         where
-          where_is : (js : List ℕ) → Walks g.links g.first js (tail_of g.links entry.0) → Avoids entry.0 js → Passes x js ⊎ Passes x (entry.0 ∷ exit.0 ∷ []) → ⊥
+          where_is :
+              (js : List ℕ) → Walks g.links g.first js (tail_of g.links entry.0) → Avoids entry.0 js → Passes x js ⊎
+              Passes x (entry.0 ∷ exit.0 ∷ []) → ⊥
           where_is js w h (inl p) = avoids_no entry.0 js h (l.3 (tail_of g.links entry.0) js w p)
           where_is js w h (inr (inl e)) = l.0 (sym e)
           where_is js w h (inr (inr (inl e))) = r.0 e
@@ -168,11 +155,7 @@ module _ (g : Graph) (sound : Sound g) (s : ℕ) (ls : s < g.steps) (not_first :
   stuck v (k ∷ ks) w h = absurd (h (inl (sym (leaves_by k w.0 w.1))))
 
   alone : (v : ℕ) → (Inside g entry.0 exit.0 v ↔ (v ≡ s))
-  alone v = (λ i. pick i (cases_eq v s), λ e. ∣ ([], entry.2 ∙ sym e, λ p. p) ∣₁)
-    where
-      pick : Inside g entry.0 exit.0 v → (v ≡ s) ⊎ (v ≡ s → ⊥) → v ≡ s
-      pick i (inl e) = e
-      pick i (inr d) = absurd (∥∥₁_elim i ⊥_prop (λ p. d (stuck v p.0 (subst (λ (x : ℕ). Walks g.links x p.0 v) entry.2 p.1) p.2)))
+  alone v = (λ i. ∥∥₁_elim i (ℕ_set v s) (λ p. stuck v p.0 (subst (λ (x : ℕ). Walks g.links x p.0 v) entry.2 p.1) p.2), λ e. ∣ ([], entry.2 ∙ sym e, λ p. p) ∣₁)
 
 pub plain_alone : PlainAlone
 plain_alone g sound s ls nf nl plain = ((entry g sound s ls nf nl plain).0, (exit g sound s ls nf nl plain).0, canonical g sound s ls nf nl plain, alone g sound s ls nf nl plain)

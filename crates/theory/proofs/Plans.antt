@@ -1,30 +1,26 @@
 -- Sound plans: closed, every step reaches every step; and a single-entry single-exit pair cuts off its inside.
-use Rattle.std.proofs.Common.{◌≡◌, ℕ, suc, ◌<◌, Bool, true, false, ◌⊎◌, List, [], ◌∷◌, ◌++◌, length, get_or, sym, refl, ap, ◌∙◌, subst, inl, inr, arith, length-append}
+use Rattle.std.proofs.Common.{◌≡◌, ℕ, suc, ◌<◌, Bool, true, false, List, [], ◌∷◌, ◌++◌, length, get_or, sym, refl, ap, ◌∙◌, subst, arith}
 use mathlib.Core.Logic.{∥∥₁_elim, ∥∥₁_map, ∥∥₁_prop}
 use mathlib.Core.HLevel.{⊥_prop}
 use mathlib.Core.Bool.{Bool-set}
-use Rattle.std.proofs.lemmas.List.{get_or_append_left, get_or_push}
-use Rattle.std.proofs.lemmas.Bool.{cases_eq, cases_Bool, both_ways}
+use Rattle.std.proofs.lemmas.List.{get_or_append_left, get_or_push, length_push}
+use Rattle.std.proofs.lemmas.Bool.{cases_eq, both_ways, false_from_ne_true}
 use Rattle.model.specs.Meaning.{Graph, tail_of, head_of, EndsBelow}
 use Rattle.model.specs.Walks.{closed, Walks, SingleEntryExit, Inside, Sound}
 use Rattle.theory.specs.Tests.{reach}
 use Rattle.theory.specs.Cuts.{Strong, Cut, ShareIsCut}
-use Rattle.theory.proofs.Walks.{Avoids, avoids_no, no_avoids, walks_append, until}
+use Rattle.theory.proofs.Walks.{Avoids, avoids_no, no_avoids, walks_append, led_avoided}
 use Rattle.theory.proofs.Reach.{reach_walk, walk_reach, reach_keeps}
 use Rattle.theory.proofs.Cuts.{Keeps, stays}
 use Rattle.theory.proofs.Cutting.{inner, share_reach}
 use Rattle.theory.proofs.Sides.{share_crossed}
-
--- one link more
-length_more : {A : Type 0} (xs : List A) (y : A) → length (xs ++ (y ∷ [])) ≡ suc (length xs)
-length_more xs y = length-append xs (y ∷ []) ∙ omega arith
 
 module _ (g : Graph) where
   abbrev pub m : ℕ
   m = length g.links
 
   pub more : length (closed g) ≡ suc m
-  more = length_more g.links (g.last, g.first)
+  more = omega (arith, length_push g.links (g.last, g.first))
 
   pub front : (k : ℕ) → k < m → get_or (closed g) k (0, 0) ≡ get_or g.links k (0, 0)
   front k l = get_or_append_left g.links ((g.last, g.first) ∷ []) (0, 0) k l
@@ -55,13 +51,16 @@ module _ (g : Graph) where
 
   module _ (sound : Sound g) where
     pub closed_within : EndsBelow g.steps (closed g)
-    closed_within k l = pick (cases_eq k m)
-      where
-        pick : (k ≡ m) ⊎ (k ≡ m → ⊥) → (tail_of (closed g) k < g.steps) × (head_of (closed g) k < g.steps)
-        pick (inl e) = rw (e, back_tail, back_head) (sound.ends, sound.begins)
-        pick (inr d) =
-            let s : k < m = omega (arith, l, more, d) in
-            rw (lift_tail k s, lift_head k s) (sound.within k s)
+    closed_within k l =
+        let end = sound.ends in
+        let begin = sound.begins in
+        let tail = lift_tail k in
+        let head = lift_head k in
+        let old = sound.within k in
+        let n = more in
+        let back = back_tail in
+        let forth = back_head in
+        grind (arith, cases_eq k m)
 
     pub closed_strong : Strong g.steps (closed g)
     closed_strong u v l r =
@@ -89,31 +88,25 @@ module _ (g : Graph) where
       keeps = reach_keeps (closed g) b g.steps (head_of (closed g) a) closed_within (closed_within a la).1
 
       pub first_out : S g.first ≡ false
-      first_out = pick (cases_Bool (S g.first))
+      first_out = false_from_ne_true (S g.first) none
         where
           x : ℕ
           x = tail_of g.links a
 
           no_walk : S g.first ≡ true → (ks : List ℕ) → Walks g.links g.first ks x → ⊥
           no_walk s ks w =
-              let u = until g.links g.first a ks w in
-              let h : Avoids b u.0 = no_avoids b u.0 (λ p. avoids_no a u.0 u.2 (r.leads.3 x u.0 u.1 p)) in
+              let u = led_avoided g a b r.leads ks w in
               both_ways (S (tail_of (closed g) a)) the_cut.a_from
-              (ap S (lift_tail a r.leads.1) ∙ stays (closed g) b S keeps g.first x u.0 (lift g.first x u.0 u.1) h s)
+              (ap S (lift_tail a r.leads.1) ∙ stays (closed g) b S keeps g.first x u.0 (lift g.first x u.0 u.1) u.3 s)
 
-          pick : (S g.first ≡ true) ⊎ (S g.first ≡ false) → S g.first ≡ false
-          pick (inr t) = t
-          pick (inl s) =
-              absurd (∥∥₁_elim (sound.between x (sound.within a r.leads.1).0) ⊥_prop (λ p. no_walk s p.0 p.2))
+          none : S g.first ≡ true → ⊥
+          none s = ∥∥₁_elim (sound.between x (sound.within a r.leads.1).0) ⊥_prop (λ p. no_walk s p.0 p.2)
 
       pub last_out : S (tail_of (closed g) m) ≡ false
-      last_out = pick (cases_Bool (S (tail_of (closed g) m)))
-        where
-          pick : (S (tail_of (closed g) m) ≡ true) ⊎ (S (tail_of (closed g) m) ≡ false) → S (tail_of (closed g) m) ≡ false
-          pick (inr t) = t
-          pick (inl s) =
-              let next = keeps m (omega (arith, more)) (λ e. absurd (omega (arith, r.leads.2, e))) s in
-              absurd (both_ways (S g.first) first_out (ap S (sym back_head) ∙ next))
+      last_out =
+          false_from_ne_true (S (tail_of (closed g) m)) (λ s.
+          let next = keeps m (omega (arith, more)) (λ e. absurd (omega (arith, r.leads.2, e))) s in
+          both_ways (S g.first) first_out (ap S (sym back_head) ∙ next))
 
       pub inside_reach : (s : ℕ) → Inside g a b s → S s ≡ true
       inside_reach s i =

@@ -1,38 +1,35 @@
 -- The test of reaching is right: what it finds has a walk, and it finds every walk.
-use Rattle.std.proofs.Common.{◌≡◌, ℕ, zero, suc, ◌+◌, ◌<◌, ◌≤◌, Bool, true, false, cond, eqb, ◌≢◌, ◌⊎◌, List, [], ◌∷◌, ◌++◌, length, set, replicate, sym, refl, ap, ◌∙◌, subst, inl, inr, arith, length-set, get_or-set_other, get_or-set_same}
-use lib.ListN.{length-replicate, get_or-replicate}
-use Rattle.std.proofs.lemmas.Bool.{cases_eq, cases_Bool, both_ways, eqb-true, eqb-false, true≢false, false≢true}
+use Rattle.std.proofs.Common.{◌≡◌, ℕ, zero, suc, ◌+◌, ◌<◌, ◌≤◌, Bool, true, false, ◌≢◌, ◌⊎◌, List, [], ◌∷◌, ◌++◌, length, set, replicate, sym, refl, ap, ◌∙◌, subst, inl, inr, arith, length-set, get_or-set_same}
+use Rattle.theory.proofs.Elements.{get_or_replicate_same}
+use Rattle.std.proofs.lemmas.Bool.{cases_eq, cases_Bool, both_ways}
 use Rattle.model.specs.Meaning.{tail_of, head_of, EndsBelow}
-use Rattle.model.specs.Walks.{Links, Walks}
+use Rattle.model.specs.Walks.{Links, Walks, Passes}
 use Rattle.theory.specs.Tests.{has, relax, sweep, count, rounds, reached, reach}
 use Rattle.theory.specs.Cuts.{ReachDecided}
-use Rattle.theory.proofs.Walks.{Avoids, avoids_no, no_avoids, avoids_append, walks_append}
+use Rattle.theory.proofs.Walks.{Avoids, passes?, avoids_no, no_avoids, avoids_append, walks_append}
+use Rattle.std.proofs.lemmas.List.{length-replicate, get_or-replicate}
+use Rattle.std.proofs.lemmas.Bool.Decides.{nat_tests}
+use Rattle.std.proofs.lemmas.Grind.{elements}
 
 pub count_le : (S : List Bool) → count S ≤ length S
 count_le [] = omega arith
-count_le (true ∷ xs) = omega (arith, count_le xs)
-count_le (false ∷ xs) = omega (arith, count_le xs)
+count_le (x ∷ xs) = grind (arith, count_le xs)
 
 -- a step that is in already
 pub set_has : (S : List Bool) (v : ℕ) → has S v ≡ true → set S v true ≡ S
 set_has [] v h = refl
-set_has (x ∷ xs) zero h = ap (λ (y : Bool). y ∷ xs) (sym h)
-set_has (x ∷ xs) (suc v) h = ap (λ (ys : List Bool). x ∷ ys) (set_has xs v h)
+set_has (x ∷ xs) zero h = grind arith
+set_has (x ∷ xs) (suc v) h = grind (arith, set_has xs v h)
 
 -- a new step
 pub set_new : (S : List Bool) (v : ℕ) → has S v ≡ false → v < length S → count S < count (set S v true)
 set_new [] v h l = omega arith
-set_new (true ∷ xs) zero h l = absurd (true≢false h)
-set_new (false ∷ xs) zero h l = omega arith
-set_new (x ∷ xs) (suc v) h l = omega (arith, set_new xs v h (omega arith))
+set_new (x ∷ xs) zero h l = grind arith
+set_new (x ∷ xs) (suc v) h l = grind (arith, set_new xs v h (omega arith))
 
 -- what a set, with one step more, has
 pub set_cases : (S : List Bool) (x v : ℕ) → has (set S x true) v ≡ true → (v ≡ x) ⊎ (has S v ≡ true)
-set_cases S x v h = pick (cases_eq v x)
-  where
-    pick : (v ≡ x) ⊎ (v ≡ x → ⊥) → (v ≡ x) ⊎ (has S v ≡ true)
-    pick (inl e) = inl e
-    pick (inr n) = inr (sym (get_or-set_other S x v true false n) ∙ h)
+set_cases S x v h = grind (arith, elements)
 
 pub set_keeps : (S : List Bool) (x v : ℕ) → has S v ≡ true → has (set S x true) v ≡ true
 set_keeps [] x v h = h
@@ -43,9 +40,8 @@ set_keeps (y ∷ ys) (suc x) (suc v) h = set_keeps ys x v h
 
 pub set_le : (S : List Bool) (x : ℕ) → count S ≤ count (set S x true)
 set_le [] x = omega arith
-set_le (true ∷ ys) zero = omega arith
-set_le (false ∷ ys) zero = omega arith
-set_le (y ∷ ys) (suc x) = omega (arith, set_le ys x)
+set_le (y ∷ ys) zero = grind arith
+set_le (y ∷ ys) (suc x) = grind (arith, set_le ys x)
 
 module _ (G : Links) (a : ℕ) where
   -- the three things that a link can do
@@ -57,38 +53,17 @@ module _ (G : Links) (a : ℕ) where
   pub relax_cases : (k : ℕ) (S : List Bool) →
       Relaxed k S (relax G a k S) ⊎ ((relax G a k S ≡ S) × (k ≢ a → has S (tail_of G k) ≡ true → ⊥))
   unfolding relax
-  relax_cases k S = pick (cases_Bool (eqb k a)) (cases_Bool (has S (tail_of G k)))
-    where
-      Out : List Bool → Type 0
-      Out R = Relaxed k S R ⊎ ((R ≡ S) × (k ≢ a → has S (tail_of G k) ≡ true → ⊥))
-
-      pick : (eqb k a ≡ true) ⊎ (eqb k a ≡ false) → (has S (tail_of G k) ≡ true) ⊎ (has S (tail_of G k) ≡ false) →
-          Out (cond (eqb k a) S (cond (has S (tail_of G k)) (set S (head_of G k) true) S))
-      pick (inl e) r = rw e (inr (refl, λ n _. n (eqb-true k a e)))
-      pick (inr e) (inl r) = rw (e, r) (inl (record { taken = eqb-false k a e; tail_in = r; is = refl }))
-      pick (inr e) (inr r) = rw (e, r) (inr (refl, λ _ t. false≢true t))
+  relax_cases k S = grind (arith, nat_tests)
 
   -- what taking a link adds, and what it keeps
   relax_length : (k : ℕ) (S : List Bool) → length (relax G a k S) ≡ length S
-  relax_length k S = pick (relax_cases k S)
-    where
-      pick : Relaxed k S (relax G a k S) ⊎ ((relax G a k S ≡ S) × (k ≢ a → has S (tail_of G k) ≡ true → ⊥)) → length (relax G a k S) ≡ length S
-      pick (inl r) = ap length r.is ∙ length-set S (head_of G k) true
-      pick (inr q) = ap length q.0
+  relax_length k S = let s = length-set S (head_of G k) true in grind (arith, relax_cases k S)
 
   relax_le : (k : ℕ) (S : List Bool) → count S ≤ count (relax G a k S)
-  relax_le k S = pick (relax_cases k S)
-    where
-      pick : Relaxed k S (relax G a k S) ⊎ ((relax G a k S ≡ S) × (k ≢ a → has S (tail_of G k) ≡ true → ⊥)) → count S ≤ count (relax G a k S)
-      pick (inl r) = rw r.is (set_le S (head_of G k))
-      pick (inr q) = omega (arith, ap count q.0)
+  relax_le k S = let s = set_le S (head_of G k) in grind (arith, relax_cases k S)
 
   relax_keeps : (k : ℕ) (S : List Bool) (v : ℕ) → has S v ≡ true → has (relax G a k S) v ≡ true
-  relax_keeps k S v h = pick (relax_cases k S)
-    where
-      pick : Relaxed k S (relax G a k S) ⊎ ((relax G a k S ≡ S) × (k ≢ a → has S (tail_of G k) ≡ true → ⊥)) → has (relax G a k S) v ≡ true
-      pick (inl r) = rw r.is (set_keeps S (head_of G k) v h)
-      pick (inr q) = rw q.0 h
+  relax_keeps k S v h = let s = set_keeps S (head_of G k) v h in grind (arith, relax_cases k S)
 
   sweep_length : (k : ℕ) (S : List Bool) → length (sweep G a k S) ≡ length S
   unfolding sweep
@@ -107,11 +82,7 @@ module _ (G : Links) (a : ℕ) where
 
   rounds_step : (n : ℕ) (S : List Bool) → Round n S (rounds G a (suc n) S)
   unfolding rounds
-  rounds_step n S = at (eqb (count (sweep G a (length G) S)) (count S)) refl
-    where
-      at : (b : Bool) → eqb (count (sweep G a (length G) S)) (count S) ≡ b → Round n S (elim b [ true ↦ S | false ↦ rounds G a n (sweep G a (length G) S) ])
-      at true e = inl (refl, eqb-true (count (sweep G a (length G) S)) (count S) e)
-      at false e = inr (refl, eqb-false (count (sweep G a (length G) S)) (count S) e)
+  rounds_step n S = grind (arith, nat_tests)
 
   -- what a set keeps through a sweep it keeps through the rounds
   rounds_keep : (Q : List Bool → Type 0) → ((S : List Bool) → Q S → Q (sweep G a (length G) S)) → (n : ℕ) (S : List Bool) → Q S → Q (rounds G a n S)
@@ -134,11 +105,7 @@ module _ (G : Links) (a : ℕ) where
   Closed k S = (j : ℕ) → j < k → j ≢ a → has S (tail_of G j) ≡ true → has S (head_of G j) ≡ true
 
   closed_more : (k : ℕ) (S : List Bool) → Closed k S → (k ≢ a → has S (tail_of G k) ≡ true → has S (head_of G k) ≡ true) → Closed (suc k) S
-  closed_more k S cl new j l n t = pick (cases_eq j k)
-    where
-      pick : (j ≡ k) ⊎ (j ≡ k → ⊥) → has S (head_of G j) ≡ true
-      pick (inl e) = rw e (new (λ q. n (e ∙ q)) (rw e at t))
-      pick (inr m) = cl j (omega arith) n t
+  closed_more k S cl new j l n t = let old = cl j in grind (arith, cases_eq j k)
 
   abbrev Swept : ℕ → List Bool → List Bool → Type 0
   Swept k S R = ((R ≡ S) × Closed k S) ⊎ (count S < count R)
@@ -205,7 +172,9 @@ module _ (G : Links) (a : ℕ) where
   reached_closed n u within l =
       pick (rounds_cases n (start n u) (λ j m. rw (start_length n u) (within j m).1))
     where
-      pick : Closed (length G) (rounds G a n (start n u)) ⊎ (count (start n u) + n ≤ count (rounds G a n (start n u))) → Closed (length G) (rounds G a n (start n u))
+      pick :
+          Closed (length G) (rounds G a n (start n u)) ⊎ (count (start n u) + n ≤ count (rounds G a n (start n u))) →
+          Closed (length G) (rounds G a n (start n u))
       pick (inl cl) = cl
       pick (inr m) =
           let small : count (rounds G a n (start n u)) ≤ n =
@@ -251,18 +220,13 @@ module _ (G : Links) (a : ℕ) where
   rounds_led : (u n : ℕ) (S : List Bool) → LedAll u S → LedAll u (rounds G a n S)
   rounds_led u n S led = rounds_keep (LedAll u) (λ R h. sweep_led u (length G) R (omega arith) h) n S led
 
-  replicate_none : (n v : ℕ) → has (replicate n false) v ≡ false
-  replicate_none zero v = refl
-  replicate_none (suc n) zero = refl
-  replicate_none (suc n) (suc v) = replicate_none n v
-
   pub reached_led : (n u v : ℕ) → has (reached G n a u) v ≡ true → Led u v
   unfolding reached
   reached_led n u v h = rounds_led u n (set (replicate n false) u true) begin v h
     where
       pick : (w : ℕ) → (w ≡ u) ⊎ (has (replicate n false) w ≡ true) → Led u w
       pick w (inl e) = ([], sym e, tt)
-      pick w (inr t) = absurd (both_ways (has (replicate n false) w) (replicate_none n w) t)
+      pick w (inr t) = absurd (both_ways (has (replicate n false) w) (get_or_replicate_same n w false) t)
 
       begin : LedAll u (set (replicate n false) u true)
       begin w t = pick w (set_cases (replicate n false) u w t)
@@ -279,9 +243,18 @@ module _ (G : Links) (a : ℕ) where
   unfolding reach
   reach_self n u l = reached_self n u l
 
-  pub reach_keeps : (n u : ℕ) → EndsBelow n G → u < n → (k : ℕ) → k < length G → k ≢ a → reach G n a u (tail_of G k) ≡ true → reach G n a u (head_of G k) ≡ true
+  pub reach_keeps :
+      (n u : ℕ) → EndsBelow n G → u < n → (k : ℕ) → k < length G → k ≢ a → reach G n a u (tail_of G k) ≡ true → reach G n a u (head_of G k) ≡ true
   unfolding reach
   reach_keeps n u within l = reached_closed n u within l
+
+  -- every walk to a step that is not reached without a passes a
+  pub passes_by : (n u v : ℕ) → EndsBelow n G → u < n → reach G n a u v ≡ false → (ks : List ℕ) → Walks G u ks v → Passes a ks
+  passes_by n u v within l out ks w = pick (passes? a ks)
+    where
+      pick : Passes a ks ⊎ Avoids a ks → Passes a ks
+      pick (inl p) = p
+      pick (inr h) = absurd (both_ways (reach G n a u v) out (walk_reach n u v within l (ks, w, h)))
 
 pub reach_decided : ReachDecided
 reach_decided G n a u v within l = (

@@ -1,6 +1,6 @@
 -- The run of a row.
-use Rattle.std.proofs.Common.{◌≡◌, ℕ, zero, suc, ◌+◌, ◌-◌, ◌<◌, ◌≤◌, true, false, ◌⊎◌, ◌↔◌, List, length, sym, subst, inl, inr, arith}
-use Rattle.std.proofs.lemmas.Bool.{cases_eq, cases_lt, cases_Bool, both_ways}
+use Rattle.std.proofs.Common.{◌≡◌, ℕ, zero, suc, ◌+◌, ◌-◌, ◌<◌, ◌≤◌, ◌⊎◌, List, length, sym, subst, inl, inr, arith}
+use Rattle.std.proofs.lemmas.Bool.{cases_eq, cases_lt, cases_Bool}
 use Rattle.model.specs.Meaning.{Graph, Meaning}
 use Rattle.model.specs.Walks.{Sound}
 use Rattle.model.specs.Parts.{Holds}
@@ -14,14 +14,9 @@ module _ (μ : Meaning) (sound : Sound μ.graph) (rows : List Row) (L : Listing 
   Has j = Holds μ.graph (row rows i).part (row rows j).part
 
   held? : (j : ℕ) → j < length rows → Has j ⊎ (Has j → ⊥)
-  held? j lj = pick (cases_Bool (holdsb μ.graph (row rows i).part (row rows j).part))
-    where
-      t : (holdsb μ.graph (row rows i).part (row rows j).part ≡ true) ↔ Holds μ.graph (row rows i).part (row rows j).part
-      t = t_holds μ.graph sound (row rows i).part (row rows j).part (proper μ sound rows L i li) (proper μ sound rows L j lj)
-
-      pick : (holdsb μ.graph (row rows i).part (row rows j).part ≡ true) ⊎ (holdsb μ.graph (row rows i).part (row rows j).part ≡ false) → Has j ⊎ (Has j → ⊥)
-      pick (inl e) = inl (t.0 e)
-      pick (inr e) = inr (λ h. both_ways (holdsb μ.graph (row rows i).part (row rows j).part) e (t.1 h))
+  held? j lj =
+      let t = t_holds μ.graph sound (row rows i).part (row rows j).part (proper μ sound rows L i li) (proper μ sound rows L j lj) in
+      grind (arith, cases_Bool (holdsb μ.graph (row rows i).part (row rows j).part))
 
   -- what is held stands at i or behind it
   behind : (j : ℕ) → j < length rows → Has j → i ≤ j
@@ -33,7 +28,8 @@ module _ (μ : Meaning) (sound : Sound μ.graph) (rows : List Row) (L : Listing 
 
   -- all rows from i to k are held, and k is not
   ends : (k : ℕ) → i < k → k ≤ length rows → ((j : ℕ) → i ≤ j → j < k → Has j) → (k < length rows → Has k → ⊥) → RunOf μ.graph rows i (k - i)
-  ends k lk lr all stop = record { room = omega arith; has = λ j lj. (λ p. all j p.0 (let l = p.1 in omega arith), λ h. (behind j lj h, before j lj h (cases_lt j k))) }
+  ends k lk lr all stop =
+      record { room = omega arith; has = λ j lj. (λ p. all j p.0 (let l = p.1 in omega arith), λ h. (behind j lj h, before j lj h (cases_lt j k))) }
     where
       before : (j : ℕ) → j < length rows → Has j → (j < k) ⊎ (k ≤ j) → j < i + (k - i)
       before j lj h (inl l) = omega arith
@@ -73,7 +69,9 @@ runs_nest =
       nest = λ g rows i r j s li lj R S le lt. within g rows i r j s li lj R S le lt (cases_lt (i + r) (j + s));
     }
   where
-    within : (g : Graph) (rows : List Row) (i r j s : ℕ) → i < length rows → j < length rows → RunOf g rows i r → RunOf g rows j s → i ≤ j → j < i + r → (i + r < j + s) ⊎ (j + s ≤ i + r) → j + s ≤ i + r
+    within :
+        (g : Graph) (rows : List Row) (i r j s : ℕ) → i < length rows → j < length rows → RunOf g rows i r → RunOf g rows j s → i ≤ j → j < i + r →
+        (i + r < j + s) ⊎ (j + s ≤ i + r) → j + s ≤ i + r
     within g rows i r j s li lj R S le lt (inr l) = l
     within g rows i r j s li lj R S le lt (inl l) =
         let room = S.room in

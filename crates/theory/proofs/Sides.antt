@@ -1,20 +1,18 @@
 -- Sets that few links cross, where every step reaches every step.
-use Rattle.std.proofs.Common.{◌≡◌, ℕ, ◌<◌, Bool, true, false, not, ◌||◌, eqb, ◌≢◌, ◌⊎◌, ◌↔◌, List, [], ◌∷◌, length, sym, refl, ap, ◌∙◌, subst, ap₂, inl, inr}
+use Rattle.std.proofs.Common.{◌≡◌, ℕ, ◌<◌, Bool, true, false, not, ◌≢◌, ◌⊎◌, ◌↔◌, List, [], ◌∷◌, length, sym, refl, ap, ◌∙◌, subst, inl, inr, arith}
 use mathlib.Core.Bool.{xor}
-use Rattle.std.proofs.lemmas.Bool.{cases_eq, cases_Bool, both_ways, not-true, not-false, eq-eqb, ne_eqb, or_from, or_left, or_right, true≢false, false≢true}
+use Rattle.std.proofs.lemmas.Bool.{cases_eq, cases_Bool, not-true, not-false, true≢false, false≢true}
 use Rattle.model.specs.Meaning.{tail_of, head_of, EndsBelow}
 use Rattle.model.specs.Walks.{Links, Walks, Share}
 use Rattle.theory.specs.Tests.{reach}
-use Rattle.theory.specs.Cuts.{Strong, Cut, crosses, Crossed}
+use Rattle.theory.specs.Cuts.{Strong, Cut, Crossed}
 use Rattle.theory.proofs.Cuts.{cut_shares}
 use Rattle.theory.proofs.Cutting.{walk_of, share_reach}
+use Rattle.std.proofs.lemmas.Bool.Decides.{nat_tests}
 
 pub xor_same : (a b : Bool) → xor a b ≡ false → a ≡ b
 unfolding xor
-xor_same true true e = refl
-xor_same true false e = absurd (true≢false e)
-xor_same false true e = absurd (true≢false e)
-xor_same false false e = refl
+xor_same a b e = grind arith
 
 pub share_refl : (G : Links) (a b : ℕ) → a ≡ b → Share G a b
 share_refl G a b e = subst (Share G a) e (λ u ks w. (λ p. p, λ p. p))
@@ -30,12 +28,12 @@ abbrev pub Exit : Links → (ℕ → Bool) → Type 0
 Exit G X = (k : ℕ) × (k < length G) × (X (tail_of G k) ≡ true) × (X (head_of G k) ≡ false)
 
 pub exit : (G : Links) (X : ℕ → Bool) (u v : ℕ) (ks : List ℕ) → Walks G u ks v → X u ≡ true → X v ≡ false → Exit G X
-exit G X u v [] w s t = absurd (both_ways (X v) t (ap X (sym w) ∙ s))
+exit G X u v [] w s t = absurd (true≢false (cc))
 exit G X u v (k ∷ ks) w s t = pick (cases_Bool (X (head_of G k))) (λ h. exit G X (head_of G k) v ks w.2 h t)
   where
     pick : (X (head_of G k) ≡ true) ⊎ (X (head_of G k) ≡ false) → (X (head_of G k) ≡ true → Exit G X) → Exit G X
     pick (inl h) next = next h
-    pick (inr h) next = (k, w.0, ap X w.1 ∙ s, h)
+    pick (inr h) next = (k, w.0, cc, h)
 
 -- no link but a and c crosses the set
 abbrev pub NoOther : Links → (ℕ → Bool) → ℕ → ℕ → Type 0
@@ -46,12 +44,7 @@ module _ (G : Links) (n : ℕ) (within : EndsBelow n G) (strong : Strong n G) wh
   out X u v l m s t = let w = walk_of G n u v within l (strong u v l m) in exit G X u v w.0 w.1 s t
 
   one_of : (X : ℕ → Bool) (a c k : ℕ) → NoOther G X a c → k < length G → (X (tail_of G k) ≡ X (head_of G k) → ⊥) → (k ≡ a) ⊎ (k ≡ c)
-  one_of X a c k only l cross = pick (cases_eq k a) (cases_eq k c)
-    where
-      pick : (k ≡ a) ⊎ (k ≡ a → ⊥) → (k ≡ c) ⊎ (k ≡ c → ⊥) → (k ≡ a) ⊎ (k ≡ c)
-      pick (inl e) q = inl e
-      pick (inr d) (inl e) = inr e
-      pick (inr d) (inr f) = absurd (cross (only k l d f))
+  one_of X a c k only l cross = let o = only k l in grind (arith, cases_eq k a, cases_eq k c)
 
   -- both ways across a set, by a and c
   pub two : (X : ℕ → Bool) (a c : ℕ) → NoOther G X a c → (u v : ℕ) → u < n → v < n → X u ≡ true → X v ≡ false →
@@ -72,20 +65,14 @@ module _ (G : Links) (n : ℕ) (within : EndsBelow n G) (strong : Strong n G) wh
       in_to : X (head_of G i.0) ≡ true
       in_to = not-false (X (head_of G i.0)) i.3
 
-      made : (x y : ℕ) → NoOther G X x y → i.0 ≡ x → o.0 ≡ y → (x ≢ y) × Cut G x y X
-      made x y only' e f = (
-        λ q. true≢false (sym o.2 ∙ ap (λ (k : ℕ). X (tail_of G k)) (f ∙ sym q ∙ sym e) ∙ in_from),
-        record {
-          a_from = ap (λ (k : ℕ). X (tail_of G k)) (sym e) ∙ in_from;
-          a_to = ap (λ (k : ℕ). X (head_of G k)) (sym e) ∙ in_to;
-          b_from = ap (λ (k : ℕ). X (tail_of G k)) (sym f) ∙ o.2;
-          b_to = ap (λ (k : ℕ). X (head_of G k)) (sym f) ∙ o.3;
-          others = only';
-        },
-      )
-
       clash : (x : ℕ) → o.0 ≡ x → i.0 ≡ x → ⊥
       clash x e f = true≢false (sym o.2 ∙ ap (λ (k : ℕ). X (tail_of G k)) (e ∙ sym f) ∙ in_from)
+
+      made : (x y : ℕ) → NoOther G X x y → i.0 ≡ x → o.0 ≡ y → (x ≢ y) × Cut G x y X
+      made x y only' e f = (
+        λ q. clash x (f ∙ sym q) e,
+        record { a_from = rw (← e) in_from; a_to = rw (← e) in_to; b_from = rw (← f) o.2; b_to = rw (← f) o.3; others = only' },
+      )
 
       pick : (o.0 ≡ a) ⊎ (o.0 ≡ c) → (i.0 ≡ a) ⊎ (i.0 ≡ c) → (a ≢ c) × (Cut G a c X ⊎ Cut G c a X)
       pick (inl e) (inl f) = absurd (clash a e f)
@@ -110,39 +97,20 @@ module _ (G : Links) (n : ℕ) (within : EndsBelow n G) (strong : Strong n G) wh
   crossed_share a b la X parts = pick (cases_Bool (X (tail_of G a))) (cases_Bool (X (head_of G a)))
     where
       only : NoOther G X a b
-      only k l p q = xor_same (X (tail_of G k)) (X (head_of G k)) (parts k l ∙ or_from (eqb k a) (eqb k b) (ne_eqb k a p) (ne_eqb k b q))
+      only k l p q = let e = parts k l in grind (arith, nat_tests)
 
-      crossed : xor (X (tail_of G a)) (X (head_of G a)) ≡ true
-      crossed = parts a la ∙ or_left (eqb a a) (eqb a b) (eq-eqb a a refl)
-
-      equal : (x y z : Bool) → x ≡ z → y ≡ z → xor x y ≡ true → ⊥
-      equal true true z e f h = false≢true h
-      equal true false z e f h = true≢false (e ∙ sym f)
-      equal false true z e f h = true≢false (f ∙ sym e)
-      equal false false z e f h = false≢true h
+      crossed : X (tail_of G a) ≡ X (head_of G a) → ⊥
+      crossed e = let c = parts a la in grind (arith, nat_tests)
 
       pick : (X (tail_of G a) ≡ true) ⊎ (X (tail_of G a) ≡ false) → (X (head_of G a) ≡ true) ⊎ (X (head_of G a) ≡ false) → Share G a b
-      pick (inl s) (inl t) = absurd (equal (X (tail_of G a)) (X (head_of G a)) true s t crossed)
-      pick (inr s) (inr t) = absurd (equal (X (tail_of G a)) (X (head_of G a)) false s t crossed)
+      pick (inl s) (inl t) = absurd (crossed (s ∙ sym t))
+      pick (inr s) (inr t) = absurd (crossed (s ∙ sym t))
       pick (inl s) (inr t) = two_share X a b only (tail_of G a) (head_of G a) (within a la).0 (within a la).1 s t
       pick (inr s) (inl t) = two_share X a b only (head_of G a) (tail_of G a) (within a la).1 (within a la).0 t s
 
 pub cut_crossed : (G : Links) (a b : ℕ) (S : ℕ → Bool) → Cut G a b S → Crossed G S a b
 unfolding xor
-cut_crossed G a b S c k l = pick (cases_eq k a) (cases_eq k b)
-  where
-    same : (x y : Bool) → x ≡ y → xor x y ≡ false
-    same true true e = refl
-    same true false e = absurd (true≢false e)
-    same false true e = absurd (false≢true e)
-    same false false e = refl
-
-    pick : (k ≡ a) ⊎ (k ≡ a → ⊥) → (k ≡ b) ⊎ (k ≡ b → ⊥) → crosses G S k ≡ (eqb k a || eqb k b)
-    pick (inl e) q =
-        ap₂ xor (ap (λ (x : ℕ). S (tail_of G x)) e ∙ c.a_from) (ap (λ (x : ℕ). S (head_of G x)) e ∙ c.a_to) ∙ sym (or_left (eqb k a) (eqb k b) (eq-eqb k a e))
-    pick (inr d) (inl e) =
-        ap₂ xor (ap (λ (x : ℕ). S (tail_of G x)) e ∙ c.b_from) (ap (λ (x : ℕ). S (head_of G x)) e ∙ c.b_to) ∙ sym (or_right (eqb k a) (eqb k b) (eq-eqb k b e))
-    pick (inr d) (inr f) = same (S (tail_of G k)) (S (head_of G k)) (c.others k l d f) ∙ sym (or_from (eqb k a) (eqb k b) (ne_eqb k a d) (ne_eqb k b f))
+cut_crossed G a b S c k l = let o = c.others k l in grind (arith, nat_tests)
 
 pub share_crossed :
     (G : Links) (n a b : ℕ) → EndsBelow n G → Strong n G → a < length G → b < length G → a ≢ b →

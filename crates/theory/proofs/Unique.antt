@@ -1,5 +1,5 @@
 -- Two listings of one sound plan are equal.
-use Rattle.std.proofs.Common.{◌≡◌, ℕ, zero, suc, ◌<◌, ◌≤◌, ◌≢◌, ◌⊎◌, List, [], ◌∷◌, length, get_or, Some, sym, refl, ap, ◌∙◌, subst, inl, inr, arith}
+use Rattle.std.proofs.Common.{◌≡◌, ℕ, zero, suc, ◌<◌, ◌≤◌, ◌≢◌, ◌⊎◌, List, [], ◌∷◌, length, get_or, Some, sym, ap, ◌∙◌, subst, inl, inr, arith}
 use Rattle.std.proofs.lemmas.List.{ext_get_or}
 use Rattle.std.proofs.lemmas.Bool.{cases_eq, cases_order}
 use Rattle.model.specs.Meaning.{Meaning}
@@ -18,14 +18,7 @@ kind_at n = get_or (Whole ∷ Single ∷ Choice ∷ Parallel ∷ Loop ∷ MeshOn
 
 pub kind_back : (k : Kind) → kind_at (kind_number k) ≡ k
 unfolding kind_at
-kind_back Whole = refl
-kind_back Single = refl
-kind_back Choice = refl
-kind_back Parallel = refl
-kind_back Loop = refl
-kind_back MeshOne = refl
-kind_back MeshAll = refl
-kind_back Mixed = refl
+kind_back k = grind arith
 
 -- a part has one kind
 pub one_kind : (μ : Meaning) (p : Part) (j k : Kind) → KindOf μ p j → KindOf μ p k → j ≡ k
@@ -54,17 +47,14 @@ module _ (μ : Meaning) (sound : Sound μ.graph) (xs : List Row) (L : Listing μ
 
   -- two rows that hold each other are one
   pub both : (i j : ℕ) → i < length xs → j < length xs → Holds μ.graph (part i) (part j) → Holds μ.graph (part j) (part i) → i ≡ j
-  both i j li lj h k = pick (cases_eq i j)
-    where
-      pick : (i ≡ j) ⊎ (i ≡ j → ⊥) → i ≡ j
-      pick (inl e) = e
-      pick (inr n) =
-          let a = L.after i j li lj (n, h) in
-          let b = L.after j i lj li (λ e. n (sym e), k) in
-          absurd (omega arith)
+  both i j li lj h k =
+      let a : i ≢ j → i < j = λ n. L.after i j li lj (n, h) in
+      let b : i ≢ j → j < i = λ n. L.after j i lj li (λ e. n (sym e), k) in
+      grind (arith, cases_eq i j)
 
   -- the parent lies in every other row that holds the row
-  pub parent_least : (i j k : ℕ) → j < length xs → Parent μ.graph xs i j → k < length xs → k ≢ j → Holds μ.graph (part k) (part j) → Holds μ.graph (part k) (part i)
+  pub parent_least :
+      (i j k : ℕ) → j < length xs → Parent μ.graph xs i j → k < length xs → k ≢ j → Holds μ.graph (part k) (part j) → Holds μ.graph (part k) (part i)
   parent_least i j k lj p lk n h =
       least μ.graph sound (part i) (part k) (part j) (row xs i).inside (row xs k).inside (proper i p.is_row) (proper k lk) (proper j lj) p.holds h
       (L.counts i p.is_row) (L.counts k lk) (p.smallest k lk n h)
@@ -83,19 +73,20 @@ module _ (μ : Meaning) (sound : Sound μ.graph) (xs ys : List Row) (L : Listing
           (j.0, j.1, j.2 ∙ sym c.2)
 
 -- the parents of one part are one part
-parents_agree : (μ : Meaning) (sound : Sound μ.graph) (xs ys : List Row) (L : Listing μ xs) (M : Listing μ ys) (i j u v : ℕ) →
-    i < length xs → j < length ys → (row xs i).part ≡ (row ys j).part → Parent μ.graph xs u i → Parent μ.graph ys v j → (row xs u).part ≡ (row ys v).part
+parents_agree :
+    (μ : Meaning) (sound : Sound μ.graph) (xs ys : List Row) (L : Listing μ xs) (M : Listing μ ys) (i j u v : ℕ) → i < length xs → j < length ys →
+    (row xs i).part ≡ (row ys j).part → Parent μ.graph xs u i → Parent μ.graph ys v j → (row xs u).part ≡ (row ys v).part
 parents_agree μ sound xs ys L M i j u v li lj e p q =
     let g = μ.graph in
     let v' = there μ sound ys xs M L v q.is_row in
     let u' = there μ sound xs ys L M u p.is_row in
     let nv : v'.0 ≢ i = λ d. q.other (M.once v j q.is_row lj (sym v'.2 ∙ ap (λ (k : ℕ). (row xs k).part) d ∙ e)) in
     let nu : u'.0 ≢ j = λ d. p.other (L.once u i p.is_row li (sym u'.2 ∙ ap (λ (k : ℕ). (row ys k).part) d ∙ sym e)) in
-    let hv : Holds g (row xs v'.0).part (row xs i).part = subst (λ (x : Part). Holds g x (row xs i).part) (sym v'.2) (subst (λ (x : Part). Holds g (row ys v).part x) (sym e) q.holds) in
-    let hu : Holds g (row ys u'.0).part (row ys j).part = subst (λ (x : Part). Holds g x (row ys j).part) (sym u'.2) (subst (λ (x : Part). Holds g (row xs u).part x) e p.holds) in
+    let hv : Holds g (row xs v'.0).part (row xs i).part = rw (v'.2, e) q.holds in
+    let hu : Holds g (row ys u'.0).part (row ys j).part = rw (u'.2, ← e) p.holds in
     let a = parent_least μ sound xs L u i v'.0 li p v'.1 nv hv in
     let b = parent_least μ sound ys M v j u'.0 lj q u'.1 nu hu in
-    let b' : Holds g (row xs u).part (row xs v'.0).part = subst (λ (x : Part). Holds g (row xs u).part x) (sym v'.2) (subst (λ (x : Part). Holds g x (row ys v).part) u'.2 b) in
+    let b' : Holds g (row xs u).part (row xs v'.0).part = rw v'.2 (rw u'.2 at b) in
     ap (λ (k : ℕ). (row xs k).part) (both μ sound xs L u v'.0 p.is_row v'.1 b' a) ∙ v'.2
 
 -- the listings agree below k
@@ -124,11 +115,12 @@ module _ (μ : Meaning) (sound : Sound μ.graph) (xs ys : List Row) (L : Listing
       v.1 ∙ ap (λ (x : ℕ). Some x) q
 
   -- the parent u of row k of xs, and u' of row k of ys, whose part stands later in xs: u' is not behind u
-  not_behind : (u u' i : ℕ) → Parent μ.graph xs u k → u' < k → k < i → i < length xs → (row xs i).part ≡ (row ys k).part → Parent μ.graph ys u' k → u < u' → ⊥
+  not_behind :
+      (u u' i : ℕ) → Parent μ.graph xs u k → u' < k → k < i → i < length xs → (row xs i).part ≡ (row ys k).part → Parent μ.graph ys u' k → u < u' → ⊥
   not_behind u u' i p lu lk li e q lt =
       let g = μ.graph in
       let h : Holds g (row xs u').part (row xs i).part =
-      subst (λ (x : Part). Holds g x (row xs i).part) (sym (agree u' lu)) (subst (λ (x : Part). Holds g (row ys u').part x) (sym e) q.holds) in
+      rw (agree u' lu, e) q.holds in
       let b = L.directly u' i k lu lk li (λ d. omega arith, h) in
       let c = parent_least μ sound xs L u k u' lx p (omega arith) b.0 b.1 in
       let l = L.after u' u (omega arith) p.is_row (λ d. omega arith, c) in
@@ -154,7 +146,8 @@ module _ (μ : Meaning) (sound : Sound μ.graph) (xs ys : List Row) (L : Listing
           let pi = parent_there μ sound ys xs M L k ly lx egree w.0 i.0 i.2 (omega arith) i.3 w.2 lw in
           ends u w lu lw j i pj pi (cases_order u.0 w.0)
         where
-          ends : (u : (u : ℕ) × ((row xs k).parent ≡ Some u) × Parent μ.graph xs u k) (w : (w : ℕ) × ((row ys k).parent ≡ Some w) × Parent μ.graph ys w k) →
+          ends :
+              (u : (u : ℕ) × ((row xs k).parent ≡ Some u) × Parent μ.graph xs u k) (w : (w : ℕ) × ((row ys k).parent ≡ Some w) × Parent μ.graph ys w k) →
               u.0 < k → w.0 < k → (j : (j : ℕ) × (k < j) × (j < length ys) × ((row ys j).part ≡ (row xs k).part)) (i : (i : ℕ) × (k < i) × (i < length xs) × ((row xs i).part ≡ (row ys k).part)) →
               (row ys j.0).parent ≡ Some u.0 → (row xs i.0).parent ≡ Some w.0 → (u.0 ≡ w.0) ⊎ ((u.0 < w.0) ⊎ (w.0 < u.0)) → ⊥
           ends u w lu lw j i pj pi (inl e) =
@@ -165,7 +158,9 @@ module _ (μ : Meaning) (sound : Sound μ.graph) (xs ys : List Row) (L : Listing
           ends u w lu lw j i pj pi (inr (inl l)) = not_behind μ sound xs ys L M k lx ly agree u.0 w.0 i.0 u.2 lw i.1 i.2 i.3 w.2 l
           ends u w lu lw j i pj pi (inr (inr l)) = not_behind μ sound ys xs M L k ly lx egree w.0 u.0 j.0 w.2 lu j.1 j.2 j.3 u.2 l
 
-      by_links : (a b c d : ℕ) → 0 < k → (row xs k).part ≡ fragment a b → (row ys k).part ≡ fragment c d → (a ≡ c) ⊎ (a ≡ c → ⊥) → (b ≡ d) ⊎ (b ≡ d → ⊥) → (row xs k).part ≡ (row ys k).part
+      by_links :
+          (a b c d : ℕ) → 0 < k → (row xs k).part ≡ fragment a b → (row ys k).part ≡ fragment c d → (a ≡ c) ⊎ (a ≡ c → ⊥) → (b ≡ d) ⊎ (b ≡ d → ⊥) →
+          (row xs k).part ≡ (row ys k).part
       by_links a b c d pos ea eb (inl e) (inl f) = cc
       by_links a b c d pos ea eb (inl e) (inr f) = absurd (clash a b c d pos ea eb (λ q. f (cc)))
       by_links a b c d pos ea eb (inr e) f = absurd (clash a b c d pos ea eb (λ q. e (cc)))
@@ -199,12 +194,10 @@ pub unique : (μ : Meaning) → Sound μ.graph → (xs ys : List Row) → Listin
 unique μ sound xs ys L M = ext_get_or (row [] 0) xs ys same (λ i l. at i l (omega (arith, same)))
   where
     same : length xs ≡ length ys
-    same = pick (cases_order (length xs) (length ys))
-      where
-        pick : (length xs ≡ length ys) ⊎ ((length xs < length ys) ⊎ (length ys < length xs)) → length xs ≡ length ys
-        pick (inl e) = e
-        pick (inr (inl l)) = absurd (not_longer μ sound xs ys L M l)
-        pick (inr (inr l)) = absurd (not_longer μ sound ys xs M L l)
+    same =
+        let a = not_longer μ sound xs ys L M in
+        let b = not_longer μ sound ys xs M L in
+        omega arith
 
     parts : (i : ℕ) → i < length xs → (row xs i).part ≡ (row ys i).part
     parts i l = agree_to μ sound xs ys L M (length xs) (omega arith) (omega (arith, same)) i l
@@ -225,9 +218,9 @@ unique μ sound xs ys L M = ext_get_or (row [] 0) xs ys same (λ i l. at i l (om
         let p = (row xs i).part in
         let e = parts i lx in
         let kx = L.kinds i lx in
-        let ky : KindOf μ p (row ys i).kind = subst (λ (x : Part). KindOf μ x (row ys i).kind) (sym e) (M.kinds i ly) in
+        let ky : KindOf μ p (row ys i).kind = rw e (M.kinds i ly) in
         let cx = L.counts i lx in
-        let cy : Counted g p (row ys i).inside = subst (λ (x : Part). Counted g x (row ys i).inside) (sym e) (M.counts i ly) in
+        let cy : Counted g p (row ys i).inside = rw e (M.counts i ly) in
         let a = exactly_le g.steps (row xs i).inside (row ys i).inside (In g p) (In g p) cx cy (λ s _ h. h) in
         let b = exactly_le g.steps (row ys i).inside (row xs i).inside (In g p) (In g p) cy cx (λ s _ h. h) in
         row_is (row xs i) (row ys i) e (parent i lx ly (cases_eq i 0)) (one_kind μ p (row xs i).kind (row ys i).kind kx ky) (omega arith)

@@ -1,8 +1,8 @@
 -- Walks put together and taken apart.
-use Rattle.std.proofs.Common.{◌≡◌, ℕ, ◌<◌, ◌≢◌, ◌⊎◌, List, [], ◌∷◌, ◌++◌, length, sym, ap, ◌∙◌, subst, inl, inr}
+use Rattle.std.proofs.Common.{◌≡◌, ℕ, ◌<◌, ◌≢◌, ◌⊎◌, List, [], ◌∷◌, ◌++◌, length, sym, refl, ap, ◌∙◌, subst, inl, inr, arith}
 use Rattle.std.proofs.lemmas.Bool.{cases_eq}
-use Rattle.model.specs.Meaning.{tail_of, head_of, EndsBelow}
-use Rattle.model.specs.Walks.{Links, Walks, Passes}
+use Rattle.model.specs.Meaning.{Graph, tail_of, head_of, EndsBelow}
+use Rattle.model.specs.Walks.{Links, Walks, Passes, Leads}
 
 -- passing, as a fact on each link
 abbrev pub Avoids : ℕ → List ℕ → Type 0
@@ -20,12 +20,7 @@ no_avoids a (k ∷ ks) h = (λ e. h (inl (sym e)), no_avoids a ks (λ p. h (inr 
 
 pub passes? : (a : ℕ) (ks : List ℕ) → Passes a ks ⊎ Avoids a ks
 passes? a [] = inr tt
-passes? a (k ∷ ks) = both (cases_eq a k) (passes? a ks)
-  where
-    both : (a ≡ k) ⊎ (a ≡ k → ⊥) → Passes a ks ⊎ Avoids a ks → Passes a (k ∷ ks) ⊎ Avoids a (k ∷ ks)
-    both (inl e) r = inl (inl e)
-    both (inr n) (inl p) = inl (inr p)
-    both (inr n) (inr h) = inr (λ e. n (sym e), h)
+passes? a (k ∷ ks) = grind (arith, cases_eq a k, passes? a ks)
 
 pub avoids_append : (a : ℕ) (ks js : List ℕ) → Avoids a ks → Avoids a js → Avoids a (ks ++ js)
 avoids_append a [] js h g = g
@@ -33,12 +28,7 @@ avoids_append a (k ∷ ks) js h g = (h.0, avoids_append a ks js h.1 g)
 
 pub passes_append : (a : ℕ) (ks js : List ℕ) → Passes a (ks ++ js) → Passes a ks ⊎ Passes a js
 passes_append a [] js p = inr p
-passes_append a (k ∷ ks) js (inl e) = inl (inl e)
-passes_append a (k ∷ ks) js (inr p) = more (passes_append a ks js p)
-  where
-    more : Passes a ks ⊎ Passes a js → Passes a (k ∷ ks) ⊎ Passes a js
-    more (inl q) = inl (inr q)
-    more (inr q) = inr q
+passes_append a (k ∷ ks) js p = grind (arith, passes_append a ks js)
 
 pub passes_left : (a : ℕ) (ks js : List ℕ) → Passes a ks → Passes a (ks ++ js)
 passes_left a [] js p = absurd p
@@ -69,9 +59,9 @@ split G u v a (k ∷ ks) w (inl e) =
       before = [];
       after = ks;
       is = ap (λ (x : ℕ). x ∷ ks) (sym e);
-      links = subst (λ (x : ℕ). x < length G) (sym e) w.0;
+      links = rw e w.0;
       to = sym w.1 ∙ ap (tail_of G) (sym e);
-      from = subst (λ (x : ℕ). Walks G (head_of G x) ks v) (sym e) w.2;
+      from = rw e w.2;
     }
 split G u v a (k ∷ ks) w (inr p) =
     let s = split G (head_of G k) v a ks w.2 p in
@@ -91,7 +81,7 @@ until G u b (k ∷ ks) w = pick (cases_eq k b) (until G (head_of G k) b ks w.2)
   where
     pick : (k ≡ b) ⊎ (k ≡ b → ⊥) → (js : List ℕ) × Walks G (head_of G k) js (tail_of G b) × Avoids b js →
         (js : List ℕ) × Walks G u js (tail_of G b) × Avoids b js
-    pick (inl e) r = ([], sym w.1 ∙ ap (tail_of G) e, tt)
+    pick (inl e) r = ([], cc, tt)
     pick (inr n) r = (k ∷ r.0, (w.0, w.1, r.1), (n, r.2))
 
 -- a walk either avoids b, or has an end behind its last b
@@ -111,3 +101,21 @@ since G u v b (k ∷ ks) w = pick (cases_eq k b) (since G (head_of G k) v b ks w
 pub walk_within : (n : ℕ) (G : Links) → EndsBelow n G → (u v : ℕ) (ks : List ℕ) → u < n → Walks G u ks v → v < n
 walk_within n G within u v [] l w = subst (λ (x : ℕ). x < n) w l
 walk_within n G within u v (k ∷ ks) l w = walk_within n G within (head_of G k) v ks (within k w.0).1 w.2
+
+-- a walk from the first step to a link passes each leader of the link
+pub leader_passed : (g : Graph) (a b : ℕ) → Leads g a b → (ks : List ℕ) → Walks g.links g.first ks (tail_of g.links b) → Passes a ks
+leader_passed g a b l ks w =
+    pick (passes_append a ks (b ∷ []) (l.3 (head_of g.links b) (ks ++ (b ∷ []))
+    (walks_append g.links g.first (tail_of g.links b) (head_of g.links b) ks (b ∷ []) w (l.2, refl, refl)) (passes_right b ks (b ∷ []) (inl refl))))
+  where
+    pick : Passes a ks ⊎ Passes a (b ∷ []) → Passes a ks
+    pick (inl p) = p
+    pick (inr (inl e)) = absurd (l.0 e)
+    pick (inr (inr n)) = absurd n
+
+-- the front of a walk from the first step to a link, without the link and what it leads
+pub led_avoided : (g : Graph) (a b : ℕ) → Leads g a b → (ks : List ℕ) → Walks g.links g.first ks (tail_of g.links a) →
+    (js : List ℕ) × Walks g.links g.first js (tail_of g.links a) × Avoids a js × Avoids b js
+led_avoided g a b l ks w =
+    let u = until g.links g.first a ks w in
+    (u.0, u.1, u.2, no_avoids b u.0 (λ p. avoids_no a u.0 u.2 (l.3 (tail_of g.links a) u.0 u.1 p)))

@@ -8,134 +8,96 @@ ghost use Rattle.theory.specs.Listings.{OneListing, BelowByParents, ParentLeast,
 ghost use Rattle.theory.specs.Calls.{LawStands, OneAnswer};
 
 // Whether a walk leads from a step to another without passing a link is computed.
-pub fn reaching_is_decided() -> u8
+pub fn reaching_is_decided()
     ensures { ReachDecided }
-{
-    0
-}
+{}
 
 // Whether two links share a class is computed.
-pub fn sharing_is_decided() -> u8
+pub fn sharing_is_decided()
     ensures { ShareDecided }
-{
-    0
-}
+{}
 
 // Two links share a class exactly when some set of steps is crossed by them and by no other link of the closed plan.
-pub fn sharing_is_a_cut() -> u8
+pub fn sharing_is_a_cut()
     ensures { ShareIsCut }
-{
-    0
-}
+{}
 
 // Every link has exactly one class name.
-pub fn classes_are_named() -> u8
+pub fn classes_are_named()
     ensures { ClassNamed }
-{
-    0
-}
+{}
 
 // A link with equal ends is alone in its class.
-pub fn equal_ends_stand_alone() -> u8
+pub fn equal_ends_stand_alone()
     ensures { EqualEndsAlone }
-{
-    0
-}
+{}
 
 // Of two links of a class one leads the other, and not both.
-pub fn classes_stand_in_line() -> u8
+pub fn classes_stand_in_line()
     ensures { ClassInLine }
-{
-    0
-}
+{}
 
 // In every order of search a link stands after those that lead it.
-pub fn leaders_stand_first() -> u8
+pub fn leaders_stand_first()
     ensures { LeaderFirst }
-{
-    0
-}
+{}
 
 // The canonical fragments are the neighbours of a class in any order of search.
-pub fn fragments_are_neighbours() -> u8
+pub fn fragments_are_neighbours()
     ensures { FragmentsNeighbours }
-{
-    0
-}
+{}
 
 // The inside of a fragment is what its entry and exit cut off, without first and last, and is computed.
-pub fn insides_are_cut_off() -> u8
+pub fn insides_are_cut_off()
     ensures { InsideCutOff }
-{
-    0
-}
+{}
 
 // Two canonical fragments have no step in common, or one has all steps of the other.
-pub fn fragments_nest() -> u8
+pub fn fragments_nest()
     ensures { FragmentsNest }
-{
-    0
-}
+{}
 
 // Two canonical fragments with the same inside are one.
-pub fn insides_tell_fragments() -> u8
+pub fn insides_tell_fragments()
     ensures { InsideTells }
-{
-    0
-}
+{}
 
 // A step that does not branch is alone in a fragment.
-pub fn plain_steps_are_alone() -> u8
+pub fn plain_steps_are_alone()
     ensures { PlainAlone }
-{
-    0
-}
+{}
 
 // An own step that does not branch is all that its fragment has.
-pub fn own_steps_branch() -> u8
+pub fn own_steps_branch()
     ensures { OwnBranches }
-{
-    0
-}
+{}
 
 // A sound plan has one listing.
-pub fn listings_are_one() -> u8
+pub fn listings_are_one()
     ensures { OneListing }
-{
-    0
-}
+{}
 
 // The rows below a row are those that its children, their children and so on stand for.
-pub fn rows_below_are_told_by_parents() -> u8
+pub fn rows_below_are_told_by_parents()
     ensures { BelowByParents }
-{
-    0
-}
+{}
 
 // The parent of a row lies in every other row that has all its steps.
-pub fn parents_are_least() -> u8
+pub fn parents_are_least()
     ensures { ParentLeast }
-{
-    0
-}
+{}
 
 // Two runs of rows are apart, or one lies within the other.
-pub fn runs_nest() -> u8
+pub fn runs_nest()
     ensures { RunsNest }
-{
-    0
-}
+{}
 
 // Every list of calls on a book that is opened over a sound plan follows the law.
-pub fn law_stands() -> u8
+pub fn law_stands()
     ensures { LawStands }
-{
-    0
-}
+{}
 
 // The law leaves one answer to each call.
-pub fn answers_are_one() -> u8
+pub fn answers_are_one()
     ensures { OneAnswer }
-{
-    0
-}
+{}

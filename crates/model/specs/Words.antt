@@ -1,9 +1,10 @@
 -- The number and the word of each kind, logic and layer.
-use Rattle.std.specs.Prelude.{ℕ, List, codes}
+use Rattle.std.specs.Prelude.{◌≡◌, ℕ, ◌<◌, List, codes, Result, MatchResult}
 use Rattle.model.specs.declared.kinds.Kind.{Kind}
 use Rattle.model.specs.declared.kinds.Kind.TheVariants.{Whole, Single, Choice, Parallel, Loop, MeshOne, MeshAll, Mixed}
 use Rattle.model.specs.declared.numbers.Logic.{Logic}
 use Rattle.model.specs.declared.numbers.Logic.TheVariants.{One, All}
+use Rattle.model.specs.declared.numbers.NotALogic.{NotALogic}
 use Rattle.model.specs.declared.refusals.Layer.{Layer}
 use Rattle.model.specs.declared.refusals.Layer.TheVariants.{Text, Plan, Shape, Book}
 
@@ -30,6 +31,10 @@ kind_word Mixed = codes "mixed"
 abbrev pub logic_number : Logic → ℕ
 logic_number One = 0
 logic_number All = 1
+
+-- r is the logic that has this number, or tells the number where no logic has it
+abbrev pub NumbersLogic : ℕ → Result Logic NotALogic → Type 0
+NumbersLogic n r = MatchResult r (λ l. logic_number l ≡ n) (λ e. (e.0 ≡ n) × (1 < n))
 
 abbrev pub layer_word : Layer → List ℕ
 layer_word Text = codes "text"

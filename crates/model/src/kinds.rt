@@ -1,6 +1,9 @@
 // The kinds of rows.
-ghost use Rattle.std.specs.Prelude.{◌≡◌};
+ghost use Rattle.std.specs.Prelude.{◌≡◌, Some};
+ghost use Rattle.std.specs.Fmt.{padded};
 ghost use Rattle.model.specs.Words.{kind_number, kind_word};
+
+use std::fmt;
 
 #[derive(Clone, Copy, PartialEq, Eq, Debug)]
 pub enum Kind {
@@ -15,6 +18,18 @@ pub enum Kind {
 }
 
 impl Kind {
+    // All kinds, in the order of their numbers.
+    pub const ALL: [Kind; 8] = [
+        Kind::Whole,
+        Kind::Single,
+        Kind::Choice,
+        Kind::Parallel,
+        Kind::Loop,
+        Kind::MeshOne,
+        Kind::MeshAll,
+        Kind::Mixed,
+    ];
+
     pub fn number(self) -> u8
         ensures { result ≡ kind_number self }
     {
@@ -43,5 +58,16 @@ impl Kind {
             Kind::MeshAll => "mesh-all",
             Kind::Mixed => "mixed",
         }
+    }
+}
+
+// A kind is shown by its word.
+impl fmt::Display for Kind {
+    ghost output = { λ k. Some (kind_word k) };
+
+    ghost styled_output = { λ k spec. Some (padded spec (kind_word k)) };
+
+    fn fmt<W: fmt::Write>(&self, f: &mut fmt::Formatter<W>) -> fmt::Result {
+        f.pad(self.word())
     }
 }

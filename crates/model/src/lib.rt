@@ -7,6 +7,6 @@ pub mod refusals;
 pub mod rowing;
 
 pub use kinds::Kind;
-pub use numbers::{Ends, LinkNo, Logic, RowNo, StepNo};
+pub use numbers::{Ends, LinkNo, Logic, NotALogic, RowNo, StepNo};
 pub use refusals::{Layer, Place, Refusal};
 pub use rowing::Row;

@@ -1,6 +1,9 @@
 // What is told when a call is turned away: a number, the layer that turned it away, and a place.
-ghost use Rattle.std.specs.Prelude.{◌≡◌};
+ghost use Rattle.std.specs.Prelude.{◌≡◌, Some};
+ghost use Rattle.std.specs.Fmt.{padded};
 ghost use Rattle.model.specs.Words.{layer_word};
+
+use std::fmt;
 
 #[derive(Clone, Copy, PartialEq, Eq, Debug)]
 pub enum Layer {
@@ -20,6 +23,17 @@ impl Layer {
             Layer::Shape => "shape",
             Layer::Book => "book",
         }
+    }
+}
+
+// A layer is shown by its word.
+impl fmt::Display for Layer {
+    ghost output = { λ l. Some (layer_word l) };
+
+    ghost styled_output = { λ l spec. Some (padded spec (layer_word l)) };
+
+    fn fmt<W: fmt::Write>(&self, f: &mut fmt::Formatter<W>) -> fmt::Result {
+        f.pad(self.word())
     }
 }
 

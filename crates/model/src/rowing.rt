@@ -2,7 +2,7 @@
 use crate::kinds::Kind;
 use crate::numbers::{LinkNo, RowNo};
 
-// Row 0, the whole plan, has no parent, no entry and no exit.
+// Row 0, the whole plan, has no parent, no entry and no exit. Each is an option of its own, since a line tells each by itself: a number, or a dash.
 #[derive(Clone, Copy, PartialEq, Eq, Debug)]
 pub struct Row {
     pub number: RowNo,

@@ -1,3 +1,3 @@
 pub mod Chains
 pub mod Tables
-pub mod Holding
+pub mod Many

@@ -1,3 +1,4 @@
 pub mod Holds
 pub mod Rows
-pub mod Holding
+pub mod Many
+pub mod Table

@@ -1,22 +1,9 @@
 // What is done to one or two chains of an arena: each call says which items the chains hold afterwards.
 ghost use Rattle.std.specs.Prelude.{◌≡◌, ℕ, ◌+◌, ◌^◌, ◌<◌, ◌≤◌, List, [], ◌∷◌, ◌++◌, length, IfSome, IfOk, Some, vec_len, MatchResult};
-ghost use Rattle.lists.specs.Holds.{Holds, Held, Apart, Popped, nil};
+ghost use Rattle.lists.specs.Holds.{Holds, Held, Apart, Popped};
 
-use crate::cells::*;
+use crate::cells::{Arena, Cell, Chain, NoMemory};
 use std::alloc::Global;
-
-impl Chain {
-    // The empty list.
-    pub(crate) fn empty() -> Chain
-        ensures { result ≡ nil }
-    {
-        Chain {
-            front: None,
-            back: None,
-            len: 0,
-        }
-    }
-}
 
 impl<T: Copy> Arena<T> {
     pub(crate) fn new(heap: Global) -> Arena<T>
@@ -35,28 +22,21 @@ impl<T: Copy> Arena<T> {
         ensures apart { IfOk result (λ l. (m : Chain) → Held self.old.cells.items m → Apart list m → Apart l m) }
         ensures size { MatchResult result (λ l. (l.len ≡ list.len + 1) × (vec_len self.new.cells ≡ vec_len self.old.cells + 1) × (vec_len self.new.cells < 2 ^ 32)) (λ _. vec_len self.new.cells ≡ vec_len self.old.cells) }
     {
+        // Cells are numbered by `u32`, and a list of all of them has a `u32` length.
         let n = self.cells.len();
         if n >= u32::MAX as usize {
             return Err(NoMemory);
         }
         let at = n as u32;
-        match self.cells.push(Cell {
+        self.cells.push(Cell {
             item: x,
             next: list.front,
-        }) {
-            Ok(()) => {
-                let back = match list.back {
-                    None => at,
-                    Some(k) => k,
-                };
-                Ok(Chain {
-                    front: Some(at),
-                    back: Some(back),
-                    len: list.len + 1,
-                })
-            }
-            Err(_) => Err(NoMemory),
-        }
+        })?;
+        Ok(Chain {
+            front: Some(at),
+            back: list.back.or(Some(at)),
+            len: list.len + 1,
+        })
     }
 
     // The items of `a`, then those of `b`.
@@ -69,23 +49,17 @@ impl<T: Copy> Arena<T> {
         ensures size { result.len ≤ a.len + b.len }
         ensures cells { vec_len self.new.cells ≡ vec_len self.old.cells }
     {
-        match a.back {
-            None => b,
-            Some(last) => match b.front {
-                None => a,
-                Some(_) => {
-                    let c = self.cells[last as usize];
-                    self.cells[last as usize] = Cell {
-                        item: c.item,
-                        next: b.front,
-                    };
-                    Chain {
-                        front: a.front,
-                        back: b.back,
-                        len: a.len + b.len,
-                    }
-                }
-            },
+        let Some(last) = a.back else {
+            return b;
+        };
+        if b.front.is_none() {
+            return a;
+        }
+        self.cells[last as usize].next = b.front;
+        Chain {
+            front: a.front,
+            len: a.len + b.len,
+            ..b
         }
     }
 
@@ -96,23 +70,16 @@ impl<T: Copy> Arena<T> {
         ensures apart { IfSome result (λ p. (m : Chain) → Apart list m → Apart p.1 m) }
         ensures size { IfSome result (λ p. p.1.len + 1 ≡ list.len) }
     {
-        match list.front {
-            None => None,
-            Some(i) => {
-                let c = self.cells[i as usize];
-                if list.len == 1 {
-                    Some((c.item, Chain::empty()))
-                } else {
-                    Some((
-                        c.item,
-                        Chain {
-                            front: c.next,
-                            back: list.back,
-                            len: list.len - 1,
-                        },
-                    ))
-                }
-            }
+        let front = list.front?;
+        let c = self.cells[front as usize];
+        if list.len == 1 {
+            return Some((c.item, Chain::default()));
         }
+        let rest = Chain {
+            front: c.next,
+            len: list.len - 1,
+            ..list
+        };
+        Some((c.item, rest))
     }
 }

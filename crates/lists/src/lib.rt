@@ -1,10 +1,9 @@
 // Joinable lists, one for each index, whose cells stand in one arena.
 #![tactic(auto)]
 
-pub mod calls;
-pub mod cells;
-pub mod chaining;
-pub mod many;
+mod cells;
+mod chaining;
+mod table;
 
-pub use cells::{Arena, Cell, Chain, NoMemory};
-pub use many::Lists;
+pub use cells::{Arena, NoMemory};
+pub use table::Lists;

@@ -31,15 +31,15 @@ digits_good (b ∷ g) small zero h = hex_digit (b / 16) (omega (arith, small.0))
 digits_good (b ∷ g) small (suc zero) h = hex_digit (b % 16) (omega arith)
 digits_good (b ∷ g) small (suc (suc k)) h = digits_good g small.1 k (omega arith)
 
-digits_even : (g : List ℕ) → length (digits_of g) ≡ 2 * length g
-digits_even [] = refl
-digits_even (b ∷ g) = omega (arith, digits_even g)
+pub length-digits_of : (g : List ℕ) → length (digits_of g) ≡ 2 * length g
+length-digits_of [] = refl
+length-digits_of (b ∷ g) = omega (arith, length-digits_of g)
 
 good_line : (g : List ℕ) → IsFrame g → GoodLine (digits_of g)
 good_line g f = record {
-  some = omega (arith, digits_even g, f.0);
+  some = omega (arith, length-digits_of g, f.0);
   digits = digits_good g f.1;
-  even = omega (arith, digits_even g);
+  even = omega (arith, length-digits_of g);
 }
 
 digits_same : (f g : List ℕ) → AllByRecursion (λ b. b < 256) f → AllByRecursion (λ b. b < 256) g → digits_of f ≡ digits_of g → f ≡ g

@@ -3,8 +3,10 @@ ghost use Rattle.std.specs.Prelude.{◌≡◌, ◌≤◌, length, MatchResult};
 ghost use Rattle.text.specs.Decoded.{line_feeds, Ended, WholeFault, Decoded};
 
 use crate::faults::TextFault;
-use crate::lines::{Frame, LINE_FEED, check_line, frame_of, line_feed};
+use crate::lines::{Frame, check_line, frame_of};
 use std::alloc::Global;
+
+const LINE_FEED: u8 = 10;
 
 // The most bytes that a text may have.
 const MOST: usize = 65535;
@@ -19,13 +21,7 @@ pub struct Frames {
 fn count_line_feeds(text: &[u8]) -> usize
     ensures { result ≡ line_feeds text.now }
 {
-    let mut count = 0;
-    for b in text {
-        if *b == LINE_FEED {
-            count += 1;
-        }
-    }
-    count
+    text.iter().filter(|b| **b == LINE_FEED).count()
 }
 
 // Whether the text is short enough, and ended by a line feed.
@@ -35,7 +31,7 @@ fn check_whole(text: &[u8]) -> Result<(), TextFault>
     if text.len() > MOST {
         return Err(TextFault::TooLong);
     }
-    if !text.is_empty() && text[text.len() - 1] != LINE_FEED {
+    if text.last().is_some_and(|b| *b != LINE_FEED) {
         let line = (count_line_feeds(text) + 1) as u16;
         return Err(TextFault::NoLineFeed { line });
     }
@@ -48,17 +44,15 @@ pub fn decode(text: &[u8], heap: Global) -> Result<Frames, TextFault>
 {
     check_whole(text)?;
     let mut frames = Vec::new(heap);
-    let mut rest = text;
-    let mut line = 1u16;
-    while let Some(end) = line_feed(rest) {
-        let bytes = &rest[0..end];
+    for (k, ended) in text.split_inclusive(|b| *b == LINE_FEED).enumerate() {
+        let line = (k + 1) as u16;
+        // A piece ends in its line feed, the last one too, since the text does.
+        let bytes = &ended[..ended.len() - 1];
         if let Err(fault) = check_line(bytes, line) {
             let end = Err(fault);
             return Ok(Frames { frames, end });
         }
         frames.push(frame_of(bytes, line, heap)?)?;
-        rest = &rest[end + 1..];
-        line += 1;
     }
     let end = Ok(());
     Ok(Frames { frames, end })

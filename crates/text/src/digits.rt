@@ -2,7 +2,7 @@
 ghost use Rattle.std.specs.Prelude.{◌≡◌};
 ghost use Rattle.text.specs.Digit.{digit_of, entry_of};
 
-// What an entry holds whose byte is no digit.
+// What an entry holds whose byte is no digit. A rule of the project: the value of a digit is read from one table of 256 bytes, so there is an entry for each byte.
 const NO_DIGIT: u8 = 255;
 
 const DIGITS: [u8; 256] = [

@@ -46,6 +46,7 @@ impl From<AllocError> for TextFault {
     }
 }
 
+// What `push` fails with holds the value that was not taken, so it is a type of its own beside the allocator's.
 impl<T: Drop> From<AllocFailed<T>> for TextFault {
     ghost from_gives = { λ _ r. r ≡ Memory };
 

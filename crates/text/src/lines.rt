@@ -1,5 +1,5 @@
 // One line of a text: what may be wrong with it, and the frame that it spells.
-ghost use Rattle.std.specs.Prelude.{◌≡◌, ℕ, ◌<◌, ◌≤◌, true, [], ◌∷◌, length, is_some, IfOk, MatchOption, MatchResult, ◌≢◌, slice_index};
+ghost use Rattle.std.specs.Prelude.{◌≡◌, ◌≤◌, true, [], ◌∷◌, length, is_some, IfOk, MatchOption, MatchResult};
 ghost use Rattle.text.specs.Decoded.{Spelt};
 ghost use Rattle.text.specs.Digit.{digit_of};
 ghost use Rattle.text.specs.Line.{Digits, GoodLine, NoDigitAt, LineFault};
@@ -9,8 +9,6 @@ use crate::digits::{digit, entry};
 use crate::faults::TextFault;
 use std::alloc::{AllocError, Global};
 
-pub(crate) const LINE_FEED: u8 = 10;
-
 // What one line spells: the kind byte and the bytes after it.
 #[derive(Debug, Drop)]
 pub struct Frame {
@@ -19,28 +17,11 @@ pub struct Frame {
     pub fields: Vec<u8>,
 }
 
-// Where the first line feed stands.
-pub(crate) fn line_feed(text: &[u8]) -> Option<usize>
-    ensures { MatchOption result ((k : ℕ) → k < length text.now → slice_index text.now k ≢ 10) (λ i. (i < length text.now) × (slice_index text.now i ≡ 10) × ((k : ℕ) → k < i → slice_index text.now k ≢ 10)) }
-{
-    for (i, b) in text.iter().enumerate() {
-        if *b == LINE_FEED {
-            return Some(i);
-        }
-    }
-    None
-}
-
 // Where the first byte stands that is no digit.
 fn no_digit(bytes: &[u8]) -> Option<usize>
     ensures { MatchOption result (Digits bytes.now (length bytes.now)) (λ k. NoDigitAt bytes.now k) }
 {
-    for (i, b) in bytes.iter().enumerate() {
-        if digit(*b).is_none() {
-            return Some(i);
-        }
-    }
-    None
+    bytes.iter().position(|b| digit(*b).is_none())
 }
 
 // Whether the bytes of a line spell a frame.
@@ -76,8 +57,8 @@ pub(crate) fn frame_of(digits: &[u8], line: u16, heap: Global) -> Result<Frame, 
 {
     let kind = byte(digits[0], digits[1]);
     let mut fields = Vec::new(heap);
-    for k in 1..digits.len() / 2 {
-        fields.push(byte(digits[2 * k], digits[2 * k + 1]))?;
+    for pair in digits[2..].chunks_exact(2) {
+        fields.push(byte(pair[0], pair[1]))?;
     }
     Ok(Frame { line, kind, fields })
 }

@@ -5,10 +5,7 @@ use std::test::Fail;
 // How many frames come out, and what ends them.
 fn told(text: &[u8], heap: Global) -> (usize, Option<TextFault>) {
     match decode(text, heap) {
-        Ok(out) => match out.end {
-            Ok(()) => (out.frames.len(), None),
-            Err(fault) => (out.frames.len(), Some(fault)),
-        },
+        Ok(out) => (out.frames.len(), out.end.err()),
         Err(fault) => (0, Some(fault)),
     }
 }
@@ -18,8 +15,8 @@ fn frames_have_kind_fields_and_line(rt: HostRuntime) -> Result<(), Fail> {
     let out = decode(b"1001\n20000A00FF\n", rt.alloc())?;
     assert!(rt; out.frames.len() == 2);
     let link = &out.frames[1];
-    assert!(rt; link.line == 2 && link.kind == 32 && link.fields.len() == 4);
-    assert!(rt; link.fields[0] == 0 && link.fields[1] == 10 && link.fields[3] == 255);
+    assert_eq!(rt; (link.line, link.kind), (2, 32));
+    assert_eq!(rt; link.fields.as_slice(), [0, 10, 0, 255].as_slice());
     Ok(())
 }
 

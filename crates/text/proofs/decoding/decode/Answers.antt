@@ -1,31 +1,35 @@
-use Rattle.std.proofs.Common.{◌+◌, ◌-◌, ◌<◌, Ok, Err, vec_items, arith, length-take}
-use Rattle.std.proofs.lemmas.List.{take_rest}
-use Rattle.text.proofs.Going.{at_start, one_more, stopped, at_fault, at_end}
+use Rattle.std.proofs.Common.{◌≡◌, Ok, Err, length, vec_items, ◌∙◌, arith, rules}
+use Rattle.std.proofs.lemmas.List.{nil_from_length}
+use Rattle.std.proofs.lemmas.List.Sorted.{answers_always}
+use Rattle.text.proofs.Going.{at_start, one_more, stopped, at_fault, cut_line}
 use Rattle.text.proofs.decoding.decode.Goals as goal
 
-pub loop-end-init : goal.loop-end-init
-loop-end-init c =
+pub loop-k-init : goal.loop-k-init
+loop-k-init c =
     let ok = c.in_ok-check_whole.ensures in
-    at_start c.args.text.now ok.0 ok.1 (vec_items c.new-frames.result) c.new-frames.ensures.items
+    record {
+      going = at_start c.args.text.now ok.0 ok.1 (vec_items c.new-frames.result) c.new-frames.ensures.items _ (search rules);
+      counted = search rules;
+    }
 
 pub returns-in-Err : goal.returns-in-Err
 returns-in-Err c =
-    let rest = c.loop-end.rest.now in
-    let feed = c.in-Some.ensures in
-    stopped c.args.text.now c.loop-end.frames rest c.loop-end.line (Err c.in-Err.fault) c.loop-end.invariant
-    (at_fault rest c.loop-end.line c.in-Some.end c.in-Err.fault feed.0 feed.1 feed.2 c.in-Err.ensures)
+    let going = c.loop-k.invariant.going in
+    let step = c.in-Some.ensures.steps in
+    let cut = cut_line _ _ _ going _ _ step.0 (answers_always _ _ _ (λ f a r f' called. search rules)) in
+    let n : c.in-Some.k ≡ length (vec_items c.loop-k.frames) = step.1 ∙ c.loop-k.invariant.counted in
+    stopped c.args.text.now c.loop-k.frames _ (Err c.in-Err.fault) going (at_fault _ _ _ _ c.in-Err.fault cut (rw (← n) c.in-Err.ensures))
 
-pub loop-end-preserved : goal.loop-end-preserved
-loop-end-preserved c =
-    let rest = c.loop-end.rest.now in
-    let i = c.in-Some.end in
-    let feed = c.in-Some.ensures in
-    let some : 0 < i = omega (arith, c.in_default-check_line.ensures.some, length-take (i - 0) rest) in
-    one_more c.args.text.now (vec_items c.loop-end.frames) rest c.loop-end.line c.loop-end.invariant i c.in_ok-frame_of.field-0
-    feed.0 feed.1 some c.in_ok-frame_of.ensures (vec_items c.push.new.self) _ c.in_ok-push.ensures.items (take_rest rest (i + 1))
+pub loop-k-preserved : goal.loop-k-preserved
+loop-k-preserved c =
+    let going = c.loop-k.invariant.going in
+    let step = c.in-Some.ensures.steps in
+    let cut = cut_line _ _ _ going _ _ step.0 (answers_always _ _ _ (λ f a r f' called. search rules)) in
+    let n : c.in-Some.k ≡ length (vec_items c.loop-k.frames) = step.1 ∙ c.loop-k.invariant.counted in
+    record {
+      going = one_more _ _ _ going _ _ cut c.in_default.ensures.some c.in_ok-frame_of.field-0 (rw (← n) c.in_ok-frame_of.ensures) (vec_items c.push.new.self) c.in_ok-push.ensures.items;
+      counted = omega (arith, step.2, c.in_ok-push.ensures.len);
+    }
 
 pub returns : goal.returns
-returns c =
-    let rest = c.loop-end.rest.now in
-    stopped c.args.text.now c.loop-end.frames rest c.loop-end.line (Ok tt) c.loop-end.invariant
-    (at_end c.args.text.now (vec_items c.loop-end.frames) rest c.loop-end.line c.loop-end.invariant c.in_default.ensures)
+returns c = stopped c.args.text.now c.loop-k.frames _ (Ok tt) c.loop-k.invariant.going (nil_from_length _ c.in-None.ensures.steps.0.0)

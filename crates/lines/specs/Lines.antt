@@ -1,12 +1,13 @@
 -- The bytes of a row's line and of a refusal's line.
-use Rattle.std.specs.Prelude.{◌≡◌, ℕ, ◌+◌, ◌<◌, ◌≤◌, List, [], ◌∷◌, ◌++◌, length, drop, Some, None, codes, decimal, Option, Result, MatchResult}
-use Rattle.std.proofs.lemmas.List.Edits.{sets}
+use Rattle.std.specs.Prelude.{◌≡◌, ℕ, ◌<◌, ◌≤◌, List, [], ◌∷◌, ◌++◌, length, drop, Some, None, codes, decimal, Option, Result, MatchResult}
 use Rattle.std.specs.Option.{option_map}
 use Rattle.model.specs.declared.refusals.Place.{Place}
 use Rattle.model.specs.declared.refusals.Place.TheVariants.{At, Column}
 use Rattle.model.specs.declared.refusals.Refusal.{Refusal}
 use Rattle.model.specs.declared.rowing.Row.{Row}
 use Rattle.model.specs.Words.{kind_word, layer_word}
+use Rattle.lines.specs.declared.line.After.{After}
+use Rattle.lines.specs.declared.line.After.TheVariants.{Blank, LineFeed}
 
 -- a number in decimal, or `-` for none
 abbrev pub optional : Option ℕ → List ℕ
@@ -19,6 +20,11 @@ blank = 32
 
 abbrev pub line_feed : ℕ
 line_feed = 10
+
+-- the byte after a field
+abbrev pub after_byte : After → ℕ
+after_byte Blank = blank
+after_byte LineFeed = line_feed
 
 -- number, parent, word, entry, exit and inside count
 abbrev pub row_bytes : Row → List ℕ
@@ -49,8 +55,3 @@ Lined line old r new =
     MatchResult r
     (λ n. (64 ≤ length old) × (n ≤ 64) × (n ≡ length line) × (new ≡ line ++ drop (length line) old))
     (λ _. (length old < 64) × (new ≡ old))
-
--- at i the bytes xs are written over those of l, which leaves m, and j is the place after them
-pub record Wrote (l : List ℕ) (i : ℕ) (xs m : List ℕ) (j : ℕ) : Type 0 where
-  pub wrote : m ≡ sets l i xs
-  pub end : j ≡ i + length xs

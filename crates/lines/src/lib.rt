@@ -2,7 +2,7 @@
 #![tactic(auto)]
 
 pub mod laws;
-mod putting;
+mod line;
 pub mod writing;
 
 pub use writing::{ShortBuffer, refusal_line, row_line};

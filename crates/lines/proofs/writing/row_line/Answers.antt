@@ -1,18 +1,14 @@
-use Rattle.std.proofs.Common.{ℕ, List, [], ◌∷◌, ◌++◌, Option, ap, arith}
-use Rattle.lines.specs.Lines.{optional, blank, row_bytes}
-use Rattle.lines.proofs.Writes.{then, same, lined}
+use Rattle.std.proofs.Common.{◌≡◌, append_assoc, rules}
+use Rattle.std.specs.Option.{option_map}
+use Rattle.lines.specs.Lines.{row_bytes}
 use Rattle.lines.proofs.writing.row_line.Goals as goal
-
-abbrev spaced : List ℕ → List ℕ
-spaced xs = xs ++ blank ∷ []
 
 pub returns : goal.returns
 returns c =
-    lined _ (row_bytes c.args.row) _ _ c.if-buf-lt64.false
-    (omega (arith, c.number.ensures.short, c.number_or_dash-e.ensures.short, c.number_or_dash-d.ensures.short, c.word-c.ensures.short, c.number_or_dash-b.ensures.short, c.number-a.ensures.short))
-    (then _ _ _ _ _ _ _ _ c.number-a.ensures.wrote
-    (then _ _ _ _ _ _ _ _ (same _ _ _ _ _ _ (ap (λ (o : Option ℕ). spaced (optional o)) c.row_number.ensures) c.number_or_dash-b.ensures.wrote)
-    (then _ _ _ _ _ _ _ _ (same _ _ _ _ _ _ (ap spaced c.word.ensures) c.word-c.ensures.wrote)
-    (then _ _ _ _ _ _ _ _ (same _ _ _ _ _ _ (ap (λ (o : Option ℕ). spaced (optional o)) c.link_number.ensures) c.number_or_dash-d.ensures.wrote)
-    (then _ _ _ _ _ _ _ _ (same _ _ _ _ _ _ (ap (λ (o : Option ℕ). spaced (optional o)) c.link_number-2.ensures) c.number_or_dash-e.ensures.wrote)
-    c.number.ensures.wrote)))))
+    let row = c.args.row in
+    let parent : c.map.result ≡ option_map (λ r. r.0) row.parent = search rules in
+    let entry : c.map-2.result ≡ option_map (λ l. l.0) row.entry = search rules in
+    let exit : c.map-3.result ≡ option_map (λ l. l.0) row.exit = search rules in
+    let all : c.number-2.new.self ≡ row_bytes row =
+    simp (c.number-2.ensures.written, c.number_or_dash-3.ensures.written, c.number_or_dash-2.ensures.written, c.word-2.ensures.written, c.number_or_dash.ensures.written, c.number.ensures.written, c.new-line.ensures, c.word.ensures, parent, entry, exit, append_assoc) in
+    rw (← all) c.copy_to.ensures

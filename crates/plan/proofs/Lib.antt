@@ -1,4 +1,5 @@
 pub mod Answered
+pub mod Asked
 pub mod Determined
 pub mod Drafted
 pub mod Ended

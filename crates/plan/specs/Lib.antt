@@ -1,5 +1,7 @@
 pub mod Checks
+pub mod Copied
 pub mod Drafts
+pub mod Frames
 pub mod Laws
 pub mod Makes
 pub mod Reading

@@ -1,6 +1,7 @@
 -- The meanings of the makes of plan: that of the smallest plan, and that of a turned one.
-use Rattle.std.specs.Prelude.{◌≡◌, ℕ, zero, suc, List, [], ◌∷◌, map, length, slice_index_or, refl}
+use Rattle.std.specs.Prelude.{◌≡◌, ℕ, List, [], ◌∷◌, map, length, slice_index_or}
 use Rattle.std.proofs.Common.{sym}
+use Rattle.std.proofs.Math.ListN.{get_or-map}
 use Rattle.std.proofs.lemmas.List.{length-map}
 use Rattle.model.specs.declared.numbers.Ends.{Ends}
 use Rattle.model.specs.declared.numbers.Logic.{Logic}
@@ -31,9 +32,7 @@ turned μ =
     record { graph = record { steps = μ.graph.steps; links = map swapped μ.graph.links; first = μ.graph.last; last = μ.graph.first }; logics = μ.logics }
 
 pub get_or_swapped : (xs : List (ℕ × ℕ)) (k : ℕ) → slice_index_or (map swapped xs) k (0, 0) ≡ swapped (slice_index_or xs k (0, 0))
-get_or_swapped [] k = refl
-get_or_swapped (x ∷ xs) zero = refl
-get_or_swapped (x ∷ xs) (suc k) = get_or_swapped xs k
+get_or_swapped xs k = get_or-map swapped xs k (0, 0)
 
 pub turned_limits : (μ : Meaning) → Limits μ → Limits (turned μ)
 turned_limits μ h =

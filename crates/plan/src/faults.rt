@@ -63,6 +63,7 @@ impl From<AllocError> for PlanFault {
     }
 }
 
+// What `push` fails with holds the value that was not taken, so it is a type of its own beside the allocator's.
 impl<T: Drop> From<AllocFailed<T>> for PlanFault {
     ghost from_gives = { λ _ r. r ≡ Memory };
 

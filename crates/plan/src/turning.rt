@@ -40,13 +40,7 @@ impl<P: Plan> Plan for Turned<P> {
     }
 
     fn ends(&self, link: LinkNo) -> Option<Ends> {
-        let Some(Ends { tail, head }) = self.below.ends(link) else {
-            return None;
-        };
-        Some(Ends {
-            tail: head,
-            head: tail,
-        })
+        self.below.ends(link).map(Ends::turned)
     }
 
     fn logic(&self, step: StepNo) -> Option<Logic> {

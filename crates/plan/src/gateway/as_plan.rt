@@ -10,23 +10,23 @@ impl Plan for GatewayTable {
     ghost limits = { limits_of };
 
     fn step_count(&self) -> u16 {
-        self.logics.len() as u16
+        self.graph.steps
     }
 
     fn link_count(&self) -> u16 {
-        self.links.len() as u16
+        self.graph.links.len() as u16
     }
 
     fn first(&self) -> StepNo {
-        self.first
+        self.graph.first
     }
 
     fn last(&self) -> StepNo {
-        self.last
+        self.graph.last
     }
 
     fn ends(&self, link: LinkNo) -> Option<Ends> {
-        self.links.get(link.0 as usize).copied()
+        self.graph.links.get(link.0 as usize).copied()
     }
 
     fn logic(&self, step: StepNo) -> Option<Logic> {

@@ -4,6 +4,7 @@ ghost use Rattle.plan.specs.Makes.{smallest};
 ghost use Rattle.plan.specs.Table.{meaning_of};
 
 use crate::gateway::GatewayTable;
+use crate::graphs::Graph;
 use model::{Ends, Logic, StepNo};
 use std::alloc::{AllocError, Global};
 
@@ -12,19 +13,20 @@ impl GatewayTable {
     pub fn new(heap: Global) -> Result<GatewayTable, AllocError>
         ensures { IfOk result (λ t. meaning_of t ≡ smallest) }
     {
-        let mut links = Vec::new(heap);
-        links.push(Ends {
-            tail: StepNo(0),
-            head: StepNo(1),
-        })?;
-        let mut logics = Vec::new(heap);
-        logics.push(Logic::One)?;
-        logics.push(Logic::One)?;
+        let first = StepNo(0);
+        let last = StepNo(1);
+        let link = Ends {
+            tail: first,
+            head: last,
+        };
         Ok(GatewayTable {
-            links,
-            logics,
-            first: StepNo(0),
-            last: StepNo(1),
+            graph: Graph {
+                steps: 2,
+                links: vec![in heap; link]?,
+                first,
+                last,
+            },
+            logics: vec![in heap; Logic::One, Logic::One]?,
         })
     }
 }

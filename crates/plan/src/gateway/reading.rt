@@ -3,7 +3,7 @@ ghost use Rattle.std.specs.Prelude.{◌≡◌, ◌≤◌, ◌⊎◌, map, length
 ghost use Rattle.text.specs.Decoded.{Numbered, bytes_of};
 ghost use Rattle.text.specs.Spelling.{Spells};
 ghost use Rattle.plan.specs.Checks.{written};
-ghost use Rattle.plan.specs.Drafts.{Kept, told_by};
+ghost use Rattle.plan.specs.Drafts.{told_by};
 ghost use Rattle.plan.specs.Reading.{Stray, Refused, Reading, GivesBack};
 ghost use Rattle.plan.specs.Table.{meaning_of};
 ghost use Rattle.plan.specs.Writing.{frames_of};
@@ -11,7 +11,7 @@ ghost use Rattle.plan.specs.declared.faults.PlanFault.TheVariants.{Memory};
 
 use crate::faults::PlanFault;
 use crate::gateway::GatewayTable;
-use crate::gateway::drafting::Draft;
+use crate::gateway::drafts::Draft;
 use std::alloc::Global;
 use text::{Frame, decode};
 
@@ -20,20 +20,17 @@ fn last_line(frames: &[Frame]) -> u16
     requires { Numbered frames.now }
     ensures { result ≡ length frames.now }
 {
-    match frames.last() {
-        Some(frame) => frame.line,
-        None => 0,
-    }
+    frames.last().map_or(0, |frame| frame.line)
 }
 
 // What all the frames tell.
 fn draft_of(frames: &[Frame], heap: Global) -> Result<Draft, PlanFault>
     requires { Numbered frames.now }
-    ensures { MatchResult result (λ d. Kept d × (written (told_by d) ≡ map bytes_of frames.now)) (λ e. Stray (map bytes_of frames.now) e ⊎ (e ≡ Memory)) }
+    ensures { MatchResult result (λ d. written (told_by d) ≡ map bytes_of frames.now) (λ e. Stray (map bytes_of frames.now) e ⊎ (e ≡ Memory)) }
 {
     let mut draft = Draft::new(heap);
     for frame in frames {
-        draft.take(frame)?;
+        draft = draft.take(frame)?;
     }
     Ok(draft)
 }
@@ -54,8 +51,7 @@ impl GatewayTable {
         ensures reads { Reading text.now (meaning_of self.old) result (meaning_of self.new) }
         ensures gives_back { GivesBack text.now result (meaning_of self.new) }
     {
-        let table = table_of(text, *self.links.allocator())?;
-        *self = table;
+        *self = table_of(text, *self.graph.links.allocator())?;
         Ok(())
     }
 }

@@ -1,11 +1,10 @@
 -- A sound plan, closed, is connected: its tree has every step.
-use Rattle.std.proofs.Common.{◌≡◌, ℕ, ◌+◌, ◌<◌, Bool, true, ◌⊎◌, List, [], ◌∷◌, ◌++◌, map, length, get_or, IfOk, Ok, Err, Result, sym, ap, ◌∙◌, subst, inl, inr, arith}
+use Rattle.std.proofs.Common.{◌≡◌, ℕ, ◌+◌, ◌<◌, Bool, true, ◌⊎◌, List, [], ◌∷◌, length, get_or, sym, ap, ◌∙◌, subst, inl, inr, arith}
 use mathlib.Core.Bool.{Bool-set}
 use mathlib.Core.Logic.{∥∥₁_elim}
-use Rattle.std.proofs.lemmas.List.{get_or_append_left, get_or_push, length_push, map_push}
+use Rattle.std.proofs.lemmas.List.{get_or_append_left, get_or_push, length_push}
 use Rattle.std.proofs.lemmas.Bool.{cases_eq}
-use Rattle.model.specs.declared.numbers.Ends.{Ends}
-use Rattle.model.specs.Meaning.{Graph, EndsBelow, tail_of, head_of, pair_of}
+use Rattle.model.specs.Meaning.{Graph, EndsBelow, tail_of, head_of}
 use Rattle.search.specs.Joined.{Connected}
 use Rattle.model.specs.Walks.{Walks, Sound, closed}
 
@@ -41,14 +40,3 @@ module _ (P : Graph) where
   pub connected : Sound P → Connected (closed P) P.steps P.first
   connected sound S r h v lt =
       ∥∥₁_elim (sound.between v lt) (Bool-set (S v) true) (λ p. sym (walk_same S h P.first p.0 v p.2) ∙ r)
-
--- what the copy has when the return link is pushed
-pub closed_more : (es es' : List Ends) (P : Graph) (e : Ends) → map pair_of es ≡ P.links → pair_of e ≡ (P.last, P.first) → es' ≡ es ++ e ∷ [] → map pair_of es' ≡ closed P
-closed_more es es' P e el ee more =
-    ap (λ (t : List Ends). map pair_of t) more ∙ map_push pair_of es e
-    ∙ ap (λ (t : List (ℕ × ℕ)). t ++ pair_of e ∷ []) el
-    ∙ ap (λ (t : ℕ × ℕ). P.links ++ t ∷ []) ee
-
-pub made_map : {X Y : Type 0} (r : Result X Y) (P Q : X → Type 0) → ((x : X) → P x → Q x) → IfOk r P → IfOk r Q
-made_map (Ok x) P Q f h = f x h
-made_map (Err y) P Q f h = h

@@ -1,10 +1,9 @@
+pub mod Places
 pub mod Rowing
 pub mod Numbers
 pub mod Ancestry
 pub mod Turns
 pub mod Closing
-pub mod Copying
 pub mod Ordering
 pub mod Turned
 pub mod Shaping
-pub mod OneFault

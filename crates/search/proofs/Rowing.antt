@@ -1,51 +1,62 @@
--- The arcs at each step: each link stands at both of its ends, and nothing else does.
-use Rattle.std.proofs.Common.{◌≡◌, ℕ, zero, suc, ◌+◌, ◌<◌, ◌≤◌, true, eqb, ◌⊎◌, List, [], ◌∷◌, map, length, get_or, sym, refl, ap, ◌∙◌, subst, inl, inr, add-one, arith}
-use Rattle.std.proofs.lemmas.Bool.{cond_both, eqb-true, cond-true, cond-false, eqb-false, cases_eq}
-use Rattle.lists.specs.declared.cells.Cell.{Cell}
-use Rattle.lists.specs.declared.cells.Chain.{Chain}
-use Rattle.lists.specs.Rows.{Rows, put}
-use Rattle.lists.proofs.Tables.{rows_same}
+-- Rows of lists, one for each step: what a change of one row does, and which arcs and links the rows of a graph have.
+use Rattle.std.proofs.Common.{◌≡◌, ℕ, zero, suc, ◌+◌, ◌<◌, ◌≤◌, true, eqb, ◌⊎◌, List, [], ◌∷◌, map, length, get_or, set, sym, refl, ap, ◌∙◌, subst, inl, inr, add-one, arith, length-set}
+use Rattle.std.proofs.lemmas.Bool.{cond_both, eqb-true, cond-true, cond-false, eqb-false, cases_eq, cases_lt, ne_eqb, eq-eqb}
+use Rattle.std.proofs.lemmas.List.{get_or-set_same, get_or-set_other, get_or_past, length-map}
+use Rattle.std.proofs.Math.ListN.{get_or-map}
+use Rattle.lists.specs.Many.{row, Reads}
 use Rattle.search.specs.declared.arcs.Arc.{Arc}
 use Rattle.model.specs.declared.numbers.Ends.{Ends}
-use Rattle.model.specs.Meaning.{tail_of, head_of, pair_of, ends_from}
-use Rattle.std.proofs.lemmas.List.{length-map}
+use Rattle.model.specs.Meaning.{tail_of, head_of, EndsBelow, pair_of, ends_from}
 use Rattle.search.specs.Joined.{add, arc, arcs_of, Joins}
+use Rattle.search.proofs.Places.{In}
 
-pub put_add : {T : Type 0} (rows : ℕ → List T) (k : ℕ) (x : T) (v : ℕ) → put rows k (x ∷ rows k) v ≡ add rows k x v
-put_add rows k x v =
-    cond_both (eqb v k) (x ∷ rows k) (rows v) (λ t. t ≡ add rows k x v)
-    (λ q. ap (λ (t : ℕ). x ∷ rows t) (sym (eqb-true v k q)) ∙ sym (cond-true (eqb v k) _ _ q))
-    (λ q. sym (cond-false (eqb v k) _ _ q))
+-- the row v once the row j is xs
+pub row_both : {T : Type 0} (t : List (List T)) (j : ℕ) (xs : List T) (v : ℕ) → j < length t → (P : List T → Type 0) → (v ≡ j → P xs) → ((v ≡ j → ⊥) → P (row t v)) → P (row (set t j xs) v)
+row_both t j xs v lt P here other = go (cases_eq v j)
+  where
+    go : (v ≡ j) ⊎ (v ≡ j → ⊥) → P (row (set t j xs) v)
+    go (inl e) =
+        subst P (sym (ap (λ (k : ℕ). row (set t j xs) k) e ∙ get_or-set_same t j xs [] lt)) (here e)
+    go (inr ne) = subst P (sym (get_or-set_other t j v xs [] ne)) (other ne)
 
-pub add_rows : {T : Type 0} (cs : List (Cell T)) (ls : List Chain) (rows : ℕ → List T) (k : ℕ) (x : T) → Rows cs ls (put rows k (x ∷ rows k)) → Rows cs ls (add rows k x)
-add_rows cs ls rows k x r = rows_same cs ls _ _ (put_add rows k x) r
+-- a row is one of those that are read, or empty
+pub row_cases : {T : Type 0} (t : List (List T)) (rows : ℕ → List T) (v : ℕ) → Reads t rows → (row t v ≡ rows v) ⊎ (row t v ≡ [])
+row_cases t rows v r = go (cases_lt v (length t))
+  where
+    go : (v < length t) ⊎ (length t ≤ v) → (row t v ≡ rows v) ⊎ (row t v ≡ [])
+    go (inl p) = inl (r v p)
+    go (inr p) = inr (get_or_past t v [] p)
 
-pub arcs_more : (cs : List (Cell Arc)) (ls : List Chain) (G : List (ℕ × ℕ)) (i : ℕ) → Rows cs ls (arcs_of G (suc i)) → Rows cs ls (arcs_of G (i + 1))
-arcs_more cs ls G i r = subst (λ (t : ℕ). Rows cs ls (arcs_of G t)) (sym (add-one i)) r
+-- the lists of t are n, those of the rows
+abbrev pub Table : {T : Type 0} → ℕ → (ℕ → List T) → List (List T) → Type 0
+Table n rows t = (length t ≡ n) × Reads t rows
 
--- what the two pushes of a turn do, p being the ends of link i
-pub turn : (cs cs₁ cs₂ : List (Cell Arc)) (ls ls₁ ls₂ : List Chain) (G : List (ℕ × ℕ)) (i : ℕ) (p : ℕ × ℕ) → get_or G i (0, 0) ≡ p → ((rows : ℕ → List Arc) → Rows cs ls rows → Rows cs₁ ls₁ (put rows p.0 (arc i p.1 ∷ rows p.0))) → ((rows : ℕ → List Arc) → Rows cs₁ ls₁ rows → Rows cs₂ ls₂ (put rows p.1 (arc i p.0 ∷ rows p.1))) → Rows cs ls (arcs_of G i) → Rows cs₂ ls₂ (arcs_of G (i + 1))
-turn cs cs₁ cs₂ ls ls₁ ls₂ G i p e one two r =
-    arcs_more cs₂ ls₂ G i
-    (subst (λ (q : ℕ × ℕ). Rows cs₂ ls₂ (add (add (arcs_of G i) q.0 (arc i q.1)) q.1 (arc i q.0))) (sym e)
-    (add_rows cs₂ ls₂ _ _ _ (two _ (add_rows cs₁ ls₁ (arcs_of G i) _ _ (one (arcs_of G i) r)))))
+-- x is put on top of the row k
+pub table_add : {T : Type 0} (n : ℕ) (rows : ℕ → List T) (t t' : List (List T)) (k : ℕ) (x : T) → k < n → t' ≡ set t k (x ∷ row t k) → Table n rows t → Table n (add rows k x) t'
+table_add {T = T} n rows t t' k x lt e r =
+    subst (λ (u : List (List T)). Table n (add rows k x) u) (sym e) (length-set t k (x ∷ row t k) ∙ r.0, more)
+  where
+    more : Reads (set t k (x ∷ row t k)) (add rows k x)
+    more v lv =
+        let long = r.0 in
+        let lk : k < length t = omega arith in
+        let lv' : v < length t = omega (arith, length-set t k (x ∷ row t k)) in
+        row_both t k (x ∷ row t k) v lk (λ xs. xs ≡ add rows k x v)
+        (λ d. ap (λ xs. x ∷ xs) (r.1 k lk ∙ ap rows (sym d)) ∙ sym (cond-true (eqb v k) (x ∷ rows v) (rows v) (eq-eqb v k d)))
+        (λ d. r.1 v lv' ∙ sym (cond-false (eqb v k) (x ∷ rows v) (rows v) (ne_eqb v k d)))
 
-abbrev pub In : Arc → List Arc → Type 0
-In a [] = ⊥
-In a (x ∷ xs) = (a ≡ x) ⊎ In a xs
-
-in_add : (rows : ℕ → List Arc) (k : ℕ) (x : Arc) (v : ℕ) (a : Arc) → In a (add rows k x v) → ((v ≡ k) × (a ≡ x)) ⊎ In a (rows v)
-in_add rows k x v a =
+pub in_add : {T : Type 0} (rows : ℕ → List T) (k : ℕ) (x : T) (v : ℕ) (a : T) → In a (add rows k x v) → ((v ≡ k) × (a ≡ x)) ⊎ In a (rows v)
+in_add {T = T} rows k x v a =
     cond_both (eqb v k) (x ∷ rows v) (rows v) (λ t. In a t → ((v ≡ k) × (a ≡ x)) ⊎ In a (rows v)) (λ q. go q) (λ q h. inr h)
   where
     go : eqb v k ≡ true → In a (x ∷ rows v) → ((v ≡ k) × (a ≡ x)) ⊎ In a (rows v)
     go q (inl e) = inl (eqb-true v k q, e)
     go q (inr h) = inr h
 
-add_keeps : (rows : ℕ → List Arc) (k : ℕ) (x : Arc) (v : ℕ) (a : Arc) → In a (rows v) → In a (add rows k x v)
+pub add_keeps : {T : Type 0} (rows : ℕ → List T) (k : ℕ) (x : T) (v : ℕ) (a : T) → In a (rows v) → In a (add rows k x v)
 add_keeps rows k x v a h = cond_both (eqb v k) (x ∷ rows v) (rows v) (λ t. In a t) (λ q. inr h) (λ q. h)
 
-add_has : (rows : ℕ → List Arc) (k : ℕ) (x : Arc) (v : ℕ) → v ≡ k → In x (add rows k x v)
+pub add_has : {T : Type 0} (rows : ℕ → List T) (k : ℕ) (x : T) (v : ℕ) → v ≡ k → In x (add rows k x v)
 add_has rows k x v e = cond_both (eqb v k) (x ∷ rows v) (rows v) (λ t. In x t) (λ q. inl refl) (λ q. absurd (eqb-false v k q e))
 
 -- the two arcs of the link i
@@ -96,12 +107,17 @@ arcs_whole G (suc i) l u v lt j = go (λ ne. arcs_whole G i l u v (omega arith) 
         let s : ◌≡◌ {A = Arc} (arc i (tail_of G i)) (arc l v) = cc in
         subst (λ (t : Arc). In t (arcs_of G (suc i) u)) s (add_has (half G i) (head_of G i) (rear G i) u a)
 
--- as many links as there are ends
-pub rows_count : (cs : List (Cell Arc)) (ls : List Chain) (es : List Ends) → Rows cs ls (arcs_of (map pair_of es) (length es)) → Rows cs ls (arcs_of (map pair_of es) (length (map pair_of es)))
-rows_count cs ls es r = subst (λ (t : ℕ). Rows cs ls (arcs_of (map pair_of es) t)) (sym (length-map es pair_of)) r
+-- the ends that the code reads of the link i
+pub ends_at : (es : List Ends) (i : ℕ) → get_or (map pair_of es) i (0, 0) ≡ pair_of (get_or es i (ends_from (0, 0)))
+ends_at es i = get_or-map pair_of es i (ends_from (0, 0))
 
--- what the code reads at i is the pair at i
-pub pair_at : (es : List Ends) (i : ℕ) → get_or (map pair_of es) i (0, 0) ≡ pair_of (get_or es i (ends_from (0, 0)))
-pair_at [] i = refl
-pair_at (e ∷ es) zero = refl
-pair_at (e ∷ es) (suc i) = pair_at es i
+pub ends_in : (es : List Ends) (n : ℕ) → EndsBelow n (map pair_of es) → (i : ℕ) → i < length es → ((get_or es i (ends_from (0, 0))).tail.0 < n) × ((get_or es i (ends_from (0, 0))).head.0 < n)
+ends_in es n below i lt =
+    subst (λ (p : ℕ × ℕ). (p.0 < n) × (p.1 < n)) (ends_at es i) (below i (omega (arith, length-map es pair_of)))
+
+-- what the two pushes of a turn do, the link i having the ends p
+pub arcs_more : (n : ℕ) (G : List (ℕ × ℕ)) (t t₁ t₂ : List (List Arc)) (i : ℕ) (p : ℕ × ℕ) → get_or G i (0, 0) ≡ p → (p.0 < n) × (p.1 < n) → t₁ ≡ set t p.0 (arc i p.1 ∷ row t p.0) → t₂ ≡ set t₁ p.1 (arc i p.0 ∷ row t₁ p.1) → Table n (arcs_of G i) t → Table n (arcs_of G (i + 1)) t₂
+arcs_more n G t t₁ t₂ i p e lt one two r =
+    subst (λ (k : ℕ). Table n (arcs_of G k) t₂) (sym (add-one i))
+    (subst (λ (q : ℕ × ℕ). Table n (add (add (arcs_of G i) q.0 (arc i q.1)) q.1 (arc i q.0)) t₂) (sym e)
+    (table_add n _ t₁ t₂ p.1 (arc i p.0) lt.1 two (table_add n (arcs_of G i) t t₁ p.0 (arc i p.1) lt.0 one r)))

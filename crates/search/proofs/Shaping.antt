@@ -1,58 +1,54 @@
--- What the parts of the test for soundness say together. The code reads `es'`, `fs'`, which are `es`, `fs`.
+-- What the parts of the test for soundness say together. The code reads es', which are es.
 use Rattle.std.proofs.Common.{◌≡◌, ℕ, ◌<◌, Bool, true, false, List, map, length, get_or, sym, ◌∙◌, subst, arith}
 use mathlib.Core.HLevel.{⊥_prop}
 use mathlib.Core.Logic.{∥∥₁_elim}
+use Rattle.std.specs.List.{AllWithin, HoldsAt}
 use Rattle.std.proofs.lemmas.List.{length-map}
 use Rattle.std.proofs.lemmas.Bool.{true≢false}
 use Rattle.model.specs.declared.numbers.Ends.{Ends}
 use Rattle.model.specs.declared.numbers.LinkNo.{LinkNo}
-use Rattle.model.specs.Meaning.{EndsBelow, pair_of, tail_of}
+use Rattle.model.specs.Meaning.{EndsBelow, pair_of, ends_from, tail_of}
 use Rattle.plan.specs.Makes.{swapped}
 use Rattle.model.specs.Walks.{Walks}
 use Rattle.search.specs.Walks.{LeadsTo}
 use Rattle.search.specs.Searched.{Searched, link_at}
+use Rattle.search.proofs.Rowing.{ends_at}
 use Rattle.search.proofs.Turned.{walks_back, walks_turned}
 
--- end is the tail or the head of a link
-abbrev NoneOf : (List (ℕ × ℕ) → ℕ → ℕ) → List Ends → ℕ → ℕ → Type 0
-NoneOf end es s n = (k : ℕ) → k < n → end (map pair_of es) k ≡ s → ⊥
+-- no link passes, and i is the first that does: of the links as they are read, and of their pairs
+pub none_of : (P : ℕ × ℕ → Type 0) (es es' : List Ends) → es' ≡ es → AllWithin (λ e. P (pair_of e) → ⊥) es' 0 (length es') → (k : ℕ) → k < length (map pair_of es) → P (get_or (map pair_of es) k (0, 0)) → ⊥
+none_of P es es' e h k lt p =
+    let h' = subst (λ (t : List Ends). AllWithin (λ e. P (pair_of e) → ⊥) t 0 (length t)) e h in
+    h' k (ends_from (0, 0)) (omega arith) (omega (arith, length-map es pair_of)) (subst P (ends_at es k) p)
 
-pub none_of : (end : List (ℕ × ℕ) → ℕ → ℕ) (es es' : List Ends) (s : ℕ) → es' ≡ es → NoneOf end es' s (length es') → NoneOf end es s (length (map pair_of es))
-none_of end es es' s e h =
-    subst (λ (n : ℕ). NoneOf end es s n) (sym (length-map es pair_of)) (subst (λ (t : List Ends). NoneOf end t s (length t)) e h)
-
-abbrev Found : (List (ℕ × ℕ) → ℕ → ℕ) → List Ends → ℕ → ℕ → ℕ → Type 0
-Found end es s l n = (l < n) × (end (map pair_of es) l ≡ s) × NoneOf end es s l
-
-pub found_of : (end : List (ℕ × ℕ) → ℕ → ℕ) (es es' : List Ends) (s l : ℕ) → es' ≡ es → Found end es' s l (length es') → Found end es s l (length (map pair_of es))
-found_of end es es' s l e h =
-    subst (λ (n : ℕ). Found end es s l n) (sym (length-map es pair_of)) (subst (λ (t : List Ends). Found end t s l (length t)) e h)
+pub found_of : (P : ℕ × ℕ → Type 0) (es es' : List Ends) (i : ℕ) → es' ≡ es → (i < length es') × HoldsAt (λ e. P (pair_of e)) es' i × AllWithin (λ e. P (pair_of e) → ⊥) es' 0 i → (i < length (map pair_of es)) × P (get_or (map pair_of es) i (0, 0)) × ((k : ℕ) → k < i → P (get_or (map pair_of es) k (0, 0)) → ⊥)
+found_of P es es' i e h =
+    let h' = subst (λ (t : List Ends). (i < length t) × HoldsAt (λ e. P (pair_of e)) t i × AllWithin (λ e. P (pair_of e) → ⊥) t 0 i) e h in
+    let lt = h'.0 in (
+      omega (arith, length-map es pair_of),
+      subst P (sym (ends_at es i)) (h'.1 (ends_from (0, 0))),
+      λ k lk p. h'.2 k (ends_from (0, 0)) (omega arith) lk (subst P (ends_at es k) p),
+    )
 
 abbrev AllTrue : List Bool → ℕ → Type 0
 AllTrue fs n = (k : ℕ) → k < n → get_or fs k false ≡ true
 
-abbrev Missed : List Bool → ℕ → Type 0
-Missed fs s = (s < length fs) × (get_or fs s false ≡ false) × AllTrue fs s
+module _ (G : List (ℕ × ℕ)) (n u : ℕ) (os : List LinkNo) (fs : List Bool) (w : Searched G n u os fs) where
+  -- a step is missed: no walk leads there, and to each smaller one some does
+  pub missed : (s : ℕ) → (s < length fs) × (get_or fs s false ≡ false) × AllTrue fs s → (s < n) × (LeadsTo G u s → ⊥) × ((v : ℕ) → v < s → LeadsTo G u v)
+  missed s m =
+      let lt = m.0 in (
+        omega (arith, w.long),
+        λ p. ∥∥₁_elim p ⊥_prop (λ q. true≢false (sym (w.complete s q.0 q.1) ∙ m.1)),
+        λ v lv. ∣ w.walked v (m.2 v lv) ∣₁,
+      )
 
--- a step is missed: no walk leads there, and to each smaller one some does
-pub missed : (G : List (ℕ × ℕ)) (n u : ℕ) (os : List LinkNo) (fs fs' : List Bool) (s : ℕ) → Searched G n u os fs → fs' ≡ fs → Missed fs' s → (s < n) × (LeadsTo G u s → ⊥) × ((v : ℕ) → v < s → LeadsTo G u v)
-missed G n u os fs fs' s w e m' =
-    let m = subst (λ (t : List Bool). Missed t s) e m' in
-    let lt = m.0 in (
-      omega (arith, w.long),
-      λ p. ∥∥₁_elim p ⊥_prop (λ q. true≢false (sym (w.complete s q.0 q.1) ∙ m.1)),
-      λ v lv. ∣ w.walked v (m.2 v lv) ∣₁,
-    )
+  -- none is missed: some walk leads to each step, and every link stands in the order
+  pub none_missed : AllTrue fs (length fs) → (v : ℕ) → v < n → LeadsTo G u v
+  none_missed h v lt = ∣ w.walked v (h v (omega (arith, w.long))) ∣₁
 
-all_here : (G : List (ℕ × ℕ)) (n u : ℕ) (os : List LinkNo) (fs fs' : List Bool) → Searched G n u os fs → fs' ≡ fs → AllTrue fs' (length fs') → AllTrue fs n
-all_here G n u os fs fs' w e h = subst (λ (t : ℕ). AllTrue fs t) w.long (subst (λ (t : List Bool). AllTrue t (length t)) e h)
-
-pub none_missed : (G : List (ℕ × ℕ)) (n u : ℕ) (os : List LinkNo) (fs fs' : List Bool) → Searched G n u os fs → fs' ≡ fs → AllTrue fs' (length fs') → (v : ℕ) → v < n → LeadsTo G u v
-none_missed G n u os fs fs' w e h v lt = ∣ w.walked v (all_here G n u os fs fs' w e h v lt) ∣₁
-
--- then every link stands in the order
-pub all_listed : (G : List (ℕ × ℕ)) (n u : ℕ) (os : List LinkNo) (fs fs' : List Bool) → EndsBelow n G → Searched G n u os fs → fs' ≡ fs → AllTrue fs' (length fs') → (k : ℕ) → k < length G → (i : ℕ) × (i < length os) × (link_at os i ≡ k)
-all_listed G n u os fs fs' below w e h k lt = w.whole k lt (all_here G n u os fs fs' w e h (tail_of G k) (below k lt).0)
+  pub all_listed : AllTrue fs (length fs) → EndsBelow n G → (k : ℕ) → k < length G → (i : ℕ) × (i < length os) × (link_at os i ≡ k)
+  all_listed h below k lt = let b = (below k lt).0 in w.whole k lt (h (tail_of G k) (omega (arith, w.long)))
 
 -- the way back
 pub leads_back : (G : List (ℕ × ℕ)) (u v : ℕ) → LeadsTo (map swapped G) u v → LeadsTo G v u

@@ -1,27 +1,20 @@
 -- The links the other way round, and the walks over them.
-use Rattle.std.proofs.Common.{◌≡◌, ℕ, ◌+◌, ◌<◌, ◌≤◌, List, [], ◌∷◌, ◌++◌, map, length, get_or, take, sym, ap, ◌∙◌, subst, arith, take_all}
-use Rattle.std.proofs.lemmas.List.{take_more, map_push, length-map}
+use Rattle.std.proofs.Common.{◌≡◌, ℕ, ◌<◌, List, [], ◌∷◌, ◌++◌, map, length, sym, refl, ap, ◌∙◌, subst, arith}
+use Rattle.std.proofs.lemmas.List.{length-map}
 use Rattle.model.specs.declared.numbers.Ends.{Ends}
-use Rattle.model.specs.Meaning.{tail_of, head_of, EndsBelow, pair_of, ends_from}
+use Rattle.model.specs.Meaning.{tail_of, head_of, EndsBelow, pair_of}
 use Rattle.plan.specs.Makes.{swapped, get_or_swapped}
 use Rattle.model.specs.Walks.{Walks}
+use Rattle.search.specs.Walks.{turned_ends}
 
-abbrev turned : List Ends → List (ℕ × ℕ)
-turned es = map swapped (map pair_of es)
+pub turned_pairs : (es : List Ends) → map pair_of (map turned_ends es) ≡ map swapped (map pair_of es)
+turned_pairs [] = refl
+turned_pairs (e ∷ es) = ap (λ (t : List (ℕ × ℕ)). swapped (pair_of e) ∷ t) (turned_pairs es)
 
--- one link more, which the code has turned
-pub turned_more : (es ts ts' : List Ends) (i : ℕ) (y : Ends) → i < length es → pair_of y ≡ swapped (pair_of (get_or es i (ends_from (0, 0)))) → map pair_of ts ≡ turned (take i es) → ts' ≡ ts ++ y ∷ [] → map pair_of ts' ≡ turned (take (i + 1) es)
-turned_more es ts ts' i y lt e inv more =
-    let z = get_or es i (ends_from (0, 0)) in
-    ap (λ (t : List Ends). map pair_of t) more ∙ map_push pair_of ts y
-    ∙ ap (λ (t : List (ℕ × ℕ)). t ++ pair_of y ∷ []) inv
-    ∙ ap (λ (t : ℕ × ℕ). turned (take i es) ++ t ∷ []) e
-    ∙ sym (map_push swapped (map pair_of (take i es)) (pair_of z))
-    ∙ ap (λ (t : List (ℕ × ℕ)). map swapped t) (sym (map_push pair_of (take i es) z))
-    ∙ ap turned (sym (take_more es i (ends_from (0, 0)) lt))
-
-pub turned_all : (es ts : List Ends) (i : ℕ) → length es ≤ i → map pair_of ts ≡ turned (take i es) → map pair_of ts ≡ turned es
-turned_all es ts i le inv = inv ∙ ap turned (take_all i es le)
+-- ts are the links es, turned, as the code reads both
+pub turned_of : (es es' ts ts' : List Ends) → es' ≡ es → ts ≡ map turned_ends es' → ts' ≡ ts → map pair_of ts' ≡ map swapped (map pair_of es)
+turned_of es es' ts ts' e t e' =
+    ap (λ (y : List Ends). map pair_of y) (e' ∙ t ∙ ap (λ (y : List Ends). map turned_ends y) e) ∙ turned_pairs es
 
 tail_turned : (G : List (ℕ × ℕ)) (k : ℕ) → tail_of (map swapped G) k ≡ head_of G k
 tail_turned G k = ap (λ (p : ℕ × ℕ). p.0) (get_or_swapped G k)

@@ -1,7 +1,6 @@
 pub mod Joined
 pub mod Numbered
 pub mod Spans
-pub mod Copied
 pub mod Walks
 pub mod Searched
 pub mod Shapes

@@ -1,14 +1,15 @@
-// The steps that a search has reached, in the order in which it did.
+// The steps that a search has reached, and those of them that wait for their turn, in the order in which it reached them.
 ghost use Rattle.std.specs.Prelude.{◌≡◌, ◌<◌, true, false, [], ◌∷◌, ◌++◌, replicate, IfOk, vec_len, MatchBool, OnOk, slice_index_or, slice_set};
 
 use lists::NoMemory;
 use model::StepNo;
 use std::alloc::Global;
+use std::collections::VecDeque;
 
 #[derive(Drop)]
 pub struct Reach {
     pub reached: Vec<bool>,
-    pub queue: Vec<StepNo>,
+    pub queue: VecDeque<StepNo>,
 }
 
 impl Reach {
@@ -19,8 +20,8 @@ impl Reach {
     {
         let mut reached = vec![in heap; false; steps]?;
         reached[start.0 as usize] = true;
-        let mut queue = Vec::new(heap);
-        queue.push(start)?;
+        let mut queue = VecDeque::new(heap);
+        queue.push_back(start)?;
         Ok(Reach { reached, queue })
     }
 
@@ -32,7 +33,7 @@ impl Reach {
         if self.reached[step.0 as usize] {
             return Ok(());
         }
-        self.queue.push(step)?;
+        self.queue.push_back(step)?;
         self.reached[step.0 as usize] = true;
         Ok(())
     }

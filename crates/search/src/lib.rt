@@ -1,9 +1,9 @@
-// Searches of a plan: its graph in arrays, the order of search, its soundness, and the depth-first tree.
+// Searches of a plan's graph: the order of search, its soundness, and the depth-first tree.
 #![tactic(auto)]
 
 mod arcs;
+pub mod digraphs;
 mod frontier;
-pub mod graphs;
 pub mod laws;
 pub mod orders;
 pub mod shapes;
@@ -11,8 +11,9 @@ pub mod soundness;
 pub mod spanning;
 pub mod trees;
 
-pub use graphs::Graph;
-pub use orders::{Order, order_of_search};
+pub use digraphs::Digraph;
+pub use orders::Order;
+pub use plan::Graph;
 pub use shapes::ShapeFault;
 pub use soundness::sound_order;
 pub use spanning::{closed_links, depth_first};

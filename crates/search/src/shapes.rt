@@ -5,8 +5,9 @@ ghost use Rattle.search.specs.Shapes.{shape_refusal};
 
 use lists::NoMemory;
 use model::{Layer, LinkNo, Place, Refusal, StepNo};
+use std::alloc::AllocError;
 
-#[derive(Clone, Copy, PartialEq, Debug)]
+#[derive(Clone, Copy, PartialEq, Eq, Debug)]
 pub enum ShapeFault {
     EntersFirst(LinkNo),
     LeavesLast(LinkNo),
@@ -32,6 +33,14 @@ impl ShapeFault {
             layer: Layer::Shape,
             place: Place::At(place),
         })
+    }
+}
+
+impl From<AllocError> for ShapeFault {
+    ghost from_gives = { λ _ r. r ≡ Memory };
+
+    fn from(_e: AllocError) -> ShapeFault {
+        ShapeFault::Memory
     }
 }
 

@@ -6,8 +6,8 @@ use lists::NoMemory;
 use model::{LinkNo, StepNo};
 use std::alloc::Global;
 
-// A step as the search came to it: the number of its parent, and the link from there. The first has itself for a parent.
-#[derive(Clone, Copy)]
+// A step as the search came to it: the number of its parent, and the link from there. The first is its own parent, and its link stands for nothing: as options, both would be taken apart wherever a number's ancestors are told, for a case that number 0 alone has.
+#[derive(Clone, Copy, PartialEq, Eq, Debug)]
 pub struct Visit {
     pub step: StepNo,
     pub parent: u16,
@@ -34,13 +34,10 @@ impl Tree {
         requires { steps ≤ 65536 }
         ensures { IfOk result (λ t. (vec_len t.number ≡ steps) × (t.visits.items ≡ []) × ((v : ℕ) → slice_index_or t.number.items v None ≡ None)) }
     {
-        match vec![in heap; None; steps] {
-            Ok(number) => Ok(Tree {
-                number,
-                visits: Vec::new(heap),
-            }),
-            Err(_) => Err(NoMemory),
-        }
+        Ok(Tree {
+            number: vec![in heap; None; steps]?,
+            visits: Vec::new(heap),
+        })
     }
 
     // Gives `step` the next number.
@@ -51,13 +48,9 @@ impl Tree {
         ensures made { IfOk result (λ k. (k ≡ length self.old.visits.items) × (self.new.visits.items ≡ self.old.visits.items ++ record { step = step; parent = parent; link = link } ∷ []) × (self.new.number.items ≡ slice_set self.old.number.items step.0 (Some k))) }
         ensures len { vec_len self.new.number ≡ vec_len self.old.number }
     {
-        let k = self.visits.len();
-        match self.visits.push(Visit { step, parent, link }) {
-            Ok(()) => {
-                self.number[step.0 as usize] = Some(k as u16);
-                Ok(k as u16)
-            }
-            Err(_) => Err(NoMemory),
-        }
+        let k = self.visits.len() as u16;
+        self.visits.push(Visit { step, parent, link })?;
+        self.number[step.0 as usize] = Some(k);
+        Ok(k)
     }
 }

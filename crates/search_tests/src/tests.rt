@@ -1,8 +1,7 @@
 use model::{LinkNo, StepNo};
 use plan::{GatewayTable, Turned};
-use search::{Graph, ShapeFault, depth_first, sound_order};
+use search::{Digraph, Graph, ShapeFault, Visit, depth_first, sound_order};
 use std::alloc::Global;
-use std::process::Abort;
 use std::test::Fail;
 
 // 0→1, 1→2, 2→4, 1→3, 3→4, 4→5
@@ -47,28 +46,25 @@ const FAULTY: [(&str, ShapeFault); 6] = [
     ),
 ];
 
+// Three lines that each crate of tests has for the texts of its own; a crate for them would be longer.
 fn table_of(heap: Global, text: &str) -> Result<GatewayTable, Fail> {
     let mut table = GatewayTable::new(heap)?;
     table.read(text.as_bytes())?;
     Ok(table)
 }
 
-fn same_links(rt: &impl Abort, order: &[LinkNo], links: &[u16]) {
-    assert_eq!(rt; order.len(), links.len());
-    for (link, number) in order.iter().zip(links.iter()) {
-        assert_eq!(rt; link.0, *number);
-    }
-}
-
 #[test]
 fn orders_of_sound_plans(rt: HostRuntime) -> Result<(), Fail> {
     let heap = rt.alloc();
     let choice = Graph::of(&table_of(heap, CHOICE)?, heap)?;
-    same_links(&rt, &sound_order(&choice, heap)?, &[0, 3, 1, 4, 2, 5]);
+    let order = sound_order(&choice, heap)?;
+    assert_eq!(rt; order.as_slice(), [0, 3, 1, 4, 2, 5].map(LinkNo).as_slice());
     let around = Graph::of(&table_of(heap, LOOP)?, heap)?;
-    same_links(&rt, &sound_order(&around, heap)?, &[0, 1, 2, 5, 3, 4]);
+    let order = sound_order(&around, heap)?;
+    assert_eq!(rt; order.as_slice(), [0, 1, 2, 5, 3, 4].map(LinkNo).as_slice());
     let back = Graph::of(&Turned::new(table_of(heap, LOOP)?), heap)?;
-    same_links(&rt, &sound_order(&back, heap)?, &[5, 2, 1, 4, 0, 3]);
+    let order = sound_order(&back, heap)?;
+    assert_eq!(rt; order.as_slice(), [5, 2, 1, 4, 0, 3].map(LinkNo).as_slice());
     Ok(())
 }
 
@@ -77,11 +73,27 @@ fn faults_of_unsound_plans(rt: HostRuntime) -> Result<(), Fail> {
     let heap = rt.alloc();
     for (text, fault) in FAULTY {
         let graph = Graph::of(&table_of(heap, text)?, heap)?;
-        match sound_order(&graph, heap) {
-            Ok(_) => return Err(Fail::new("an unsound plan has an order")),
-            Err(told) => assert_eq!(rt; told, fault),
-        }
+        assert_eq!(rt; sound_order(&graph, heap).err(), Some(fault));
     }
+    Ok(())
+}
+
+// 0→2, 1→2: step 1 is not reached, and the link that leaves it is not in the order.
+#[test]
+fn orders_stop_where_no_link_leads(rt: HostRuntime) -> Result<(), Fail> {
+    let heap = rt.alloc();
+    let table = table_of(
+        heap,
+        "0100000002\n1000\n1000\n1000\n2000000002\n2000010002\n",
+    )?;
+    let graph = Graph::of(&table, heap)?;
+    let digraph = Digraph {
+        links: &graph.links,
+        steps: graph.steps as usize,
+    };
+    let order = digraph.order_from(StepNo(0), heap)?;
+    assert_eq!(rt; order.links.as_slice(), [LinkNo(0)].as_slice());
+    assert_eq!(rt; order.reached.as_slice(), [true, false, true].as_slice());
     Ok(())
 }
 
@@ -98,11 +110,11 @@ fn trees_have_every_step(rt: HostRuntime) -> Result<(), Fail> {
         (1, 3, 3),
         (2, 4, 1),
     ];
-    assert_eq!(rt; tree.visits.len(), expected.len());
-    for (visit, (step, parent, link)) in tree.visits.iter().zip(expected.iter().copied()) {
-        assert_eq!(rt; visit.step.0, step);
-        assert_eq!(rt; visit.parent, parent);
-        assert_eq!(rt; visit.link.0, link);
-    }
+    let expected = expected.map(|(step, parent, link)| Visit {
+        step: StepNo(step),
+        parent,
+        link: LinkNo(link),
+    });
+    assert_eq!(rt; tree.visits.as_slice(), expected.as_slice());
     Ok(())
 }

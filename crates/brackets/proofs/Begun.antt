@@ -1,10 +1,10 @@
 -- The back links, put one by one to the numbers that they start from.
-use Rattle.std.proofs.Common.{◌≡◌, ℕ, suc, ◌+◌, ◌-◌, ◌<◌, Bool, true, false, cond, ◌&&◌, eqb, ltb, ◌⊎◌, List, [], ◌∷◌, length, replicate, filter, sym, refl, ap, ◌∙◌, subst, ap₂, inl, inr, arith}
+use Rattle.std.proofs.Common.{◌≡◌, ℕ, suc, ◌+◌, ◌-◌, ◌<◌, ◌≤◌, Bool, true, false, cond, ◌&&◌, eqb, ltb, ◌⊎◌, List, [], ◌∷◌, length, replicate, filter, sym, refl, ap, ◌∙◌, subst, ap₂, inl, inr, arith}
 use Rattle.std.specs.List.{AllByRecursion}
 use Rattle.std.proofs.ByRecursion.{All-weaker}
 use Rattle.std.proofs.lemmas.List.{get_or-replicate, length-replicate}
-use Rattle.std.proofs.lemmas.Bool.{cases_eq, and_left, and_right, eq-eqb, ne_eqb, cond_both}
-use Rattle.lists.specs.Rows.{put}
+use Rattle.std.proofs.lemmas.Bool.{cases_eq, and_left, and_right, eq-eqb, ne_eqb}
+use Rattle.lists.specs.Many.{row, Reads}
 use Rattle.model.specs.Meaning.{EndsBelow}
 use Rattle.model.specs.Walks.{Links}
 use Rattle.naming.specs.Words.{low}
@@ -18,16 +18,12 @@ use Rattle.naming.proofs.DepthFirst.{links_none, links_yes, links_no, upward}
 use Rattle.naming.proofs.Searched.{ready, link_dst}
 use Rattle.naming.proofs.Turns.{turns}
 use Rattle.brackets.specs.declared.levels.Level.{Level}
-use Rattle.brackets.specs.declared.sweeping.Bracket.{Bracket}
+use Rattle.brackets.specs.declared.holding.Bracket.{Bracket}
 use Rattle.brackets.specs.Levels.{bare, level, change, having_back_link, having_end}
 use Rattle.brackets.specs.Live.{items, with_start, started}
 use Rattle.brackets.specs.Swept.{Begun, state, Swept}
 use Rattle.brackets.proofs.Changes.{change_same, change_other, change_long}
-use Rattle.brackets.proofs.Live.{put_same, put_other}
-
--- what holds of the items of each list holds after one list is changed, if it holds of that list
-pub all_put : (Q : Bracket → Type 0) (rows : ℕ → List Bracket) (j : ℕ) (xs : List Bracket) → ((k : ℕ) → AllByRecursion Q (rows k)) → AllByRecursion Q xs → (k : ℕ) → AllByRecursion Q (put rows j xs k)
-all_put Q rows j xs all a k = cond_both (eqb k j) xs (rows k) (AllByRecursion Q) (λ _. a) (λ _. all k)
+use Rattle.brackets.proofs.Live.{put_same, put_other, read_all, all_put}
 
 module _ (G : Links) (n : ℕ) (number link : ℕ → ℕ) where
   abbrev to : ℕ → ℕ
@@ -150,6 +146,30 @@ sofar_same B k s t so a b c d f =
       lo_is = λ p l. c p l ∙ so.lo_is p l;
       lo2_is = λ p l. d p l ∙ so.lo2_is p l;
       ends_is = f;
+    }
+
+-- what is said of rows holds of the lists that are read
+pub begun_read : (G : Links) (n : ℕ) (number link : ℕ → ℕ) (m : ℕ) (t : List (List Bracket)) (rows : ℕ → List Bracket) (levels : List Level) → Reads t rows → length t ≡ n + n →
+    Begun G n number link m rows levels → Begun G n number link m (row t) levels
+begun_read G n number link m t rows levels r e B =
+    record {
+      long = B.long;
+      right = read_all (AllByRecursion (Good G n number link m)) t rows tt r B.right;
+      none = λ p l. r p (omega arith) ∙ B.none p l;
+      own = λ p l. ap items (r (n + p) (omega arith)) ∙ B.own p l;
+      known = B.known;
+    }
+
+pub swept_read : (P : Searched) (back : ℕ → ℕ) (k : ℕ) (t : List (List Bracket)) (rows : ℕ → List Bracket) (levels : List Level) → Reads t rows → length t ≡ P.size + P.size → k ≤ P.size →
+    Swept P back k rows levels → Swept P back k (row t) levels
+swept_read P back k t rows levels r e few W =
+    record {
+      long = W.long;
+      right = read_all (AllByRecursion (λ b. b.to ≡ (base_of P).dst b.item)) t rows tt r W.right;
+      own = λ p l. ap items (r (P.size + p) (omega arith)) ∙ W.own p l;
+      sofar = sofar_same (base_of P) k (state P k rows levels) (state P k (row t) levels) W.sofar (λ p l. ap items (r p (omega arith))) (λ p l. refl) (λ p l. refl) (λ p l. refl) (λ p l. refl);
+      hi0 = W.hi0;
+      ends = W.ends;
     }
 
 module _ (G : Links) (n : ℕ) (within : EndsBelow n G) (number step parent link : ℕ → ℕ) (T : DepthFirst G n number step parent link) where

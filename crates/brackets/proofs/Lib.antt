@@ -6,3 +6,4 @@ pub mod Turn
 pub mod Seen
 pub mod Looked
 pub mod Handling
+pub mod Bounding

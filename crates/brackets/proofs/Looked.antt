@@ -1,15 +1,15 @@
 -- One link of the closed plan looked at, as the loop over the links does it.
-use Rattle.std.proofs.Common.{◌≡◌, ℕ, suc, ◌+◌, ◌^◌, ◌<◌, Bool, true, false, not, ◌&&◌, eqb, ◌≢◌, List, length, sym, ap, ◌∙◌, subst, add-one, arith}
+use Rattle.std.proofs.Common.{◌≡◌, ℕ, suc, ◌+◌, ◌^◌, ◌<◌, Bool, true, false, not, ◌&&◌, eqb, ◌≢◌, List, sym, ap, ◌∙◌, subst, add-one, arith}
 use Rattle.std.proofs.lemmas.Bool.{and_right, eq-eqb, ne_eqb}
 use Rattle.model.specs.Meaning.{tail_of, head_of}
 use Rattle.naming.specs.DepthFirst.{of_tree, from_end, to_end, is_back}
 use Rattle.search.specs.Spans.{link_of}
 use Rattle.brackets.specs.declared.levels.Level.{Level}
 use Rattle.brackets.specs.declared.spanning.Spanning.{Spanning}
-use Rattle.brackets.specs.declared.sweeping.Bracket.{Bracket}
+use Rattle.brackets.specs.declared.holding.Bracket.{Bracket}
 use Rattle.brackets.specs.Levels.{level}
 use Rattle.brackets.specs.Live.{with_start, started}
-use Rattle.brackets.specs.Method.{links_of, visits_of, size_of, number_of, Whole}
+use Rattle.brackets.specs.Method.{links_of, visits_of, size_of, number_of}
 use Rattle.brackets.specs.Swept.{Begun}
 use Rattle.brackets.proofs.Begun.{begun_skip, begun_more}
 use Rattle.brackets.proofs.Seen.{how_many_most}
@@ -37,27 +37,19 @@ module _ (s : Spanning) (l : ℕ) where
     pub loop_skipped : tail_number ≡ head_number → At (l + 1) rows levels
     loop_skipped e = no_back (and_right (not in_tree) (not (eqb tail_number head_number)) (ap not (eq-eqb tail_number head_number e)))
 
-    module _ (whole : Whole s) (within : l < length (links_of s)) where
-      tail_below : tail_number < size_of s
-      tail_below = whole.tree.number_below (tail_of (links_of s) l) (whole.within l within).0
+    pub back_link_put : (from to : ℕ) → from ≡ from_end (links_of s) (size_of s) (number_of s) (link_of (visits_of s)) l → to ≡ to_end (links_of s) (size_of s) (number_of s) (link_of (visits_of s)) l → from < size_of s →
+        in_tree ≡ false → (tail_number ≡ head_number → ⊥) → At (l + 1) (with_start (size_of s) rows l from to) (started levels from to)
+    back_link_put from to f t lt outside apart =
+        subst (λ (i : ℕ). At i (with_start (size_of s) rows l from to) (started levels from to)) (sym (add-one l))
+        (subst (λ (i : ℕ). At (suc l) (with_start (size_of s) rows l i to) (started levels i to)) (sym f)
+        (subst (λ (i : ℕ). At (suc l) (with_start (size_of s) rows l (from_end (links_of s) (size_of s) (number_of s) (link_of (visits_of s)) l) i) (started levels (from_end (links_of s) (size_of s) (number_of s) (link_of (visits_of s)) l) i)) (sym t)
+        (begun_more (links_of s) (size_of s) (number_of s) (link_of (visits_of s)) l rows levels B
+        (ap (λ (b : Bool). not b && not (eqb tail_number head_number)) outside ∙ ap not (ne_eqb tail_number head_number apart))
+        (omega arith)
+        (let a : tail_number ≢ head_number = apart in omega arith))))
 
-      head_below : head_number < size_of s
-      head_below = whole.tree.number_below (head_of (links_of s) l) (whole.within l within).1
-
-      pub back_link_put : (from to : ℕ) → from ≡ from_end (links_of s) (size_of s) (number_of s) (link_of (visits_of s)) l → to ≡ to_end (links_of s) (size_of s) (number_of s) (link_of (visits_of s)) l →
-          in_tree ≡ false → (tail_number ≡ head_number → ⊥) → At (l + 1) (with_start (size_of s) rows l from to) (started levels from to)
-      back_link_put from to f t outside apart =
-          subst (λ (i : ℕ). At i (with_start (size_of s) rows l from to) (started levels from to)) (sym (add-one l))
-          (subst (λ (i : ℕ). At (suc l) (with_start (size_of s) rows l i to) (started levels i to)) (sym f)
-          (subst (λ (i : ℕ). At (suc l) (with_start (size_of s) rows l (from_end (links_of s) (size_of s) (number_of s) (link_of (visits_of s)) l) i) (started levels (from_end (links_of s) (size_of s) (number_of s) (link_of (visits_of s)) l) i)) (sym t)
-          (begun_more (links_of s) (size_of s) (number_of s) (link_of (visits_of s)) l rows levels B
-          (ap (λ (b : Bool). not b && not (eqb tail_number head_number)) outside ∙ ap not (ne_eqb tail_number head_number apart))
-          (let a = tail_below in let b = head_below in omega arith)
-          (let a : tail_number ≢ head_number = apart in omega arith))))
-
-      pub few_ends : (to : ℕ) → to < size_of s → (level levels to).ends + 1 < 2 ^ 32
-      few_ends to lt =
-          let a = ap (λ (x : Level). x.ends) (B.known to lt) in
-          let b = how_many_most (λ e. is_back (links_of s) (size_of s) (number_of s) (link_of (visits_of s)) e && eqb (to_end (links_of s) (size_of s) (number_of s) (link_of (visits_of s)) e) to) l in
-          let c = whole.few_links in
-          omega arith
+    pub few_ends : l < 2 ^ 16 → (to : ℕ) → to < size_of s → (level levels to).ends + 1 < 2 ^ 32
+    few_ends few to lt =
+        let a = ap (λ (x : Level). x.ends) (B.known to lt) in
+        let b = how_many_most (λ e. is_back (links_of s) (size_of s) (number_of s) (link_of (visits_of s)) e && eqb (to_end (links_of s) (size_of s) (number_of s) (link_of (visits_of s)) e) to) l in
+        omega arith

@@ -1,5 +1,5 @@
 -- The links of the tree, marked one by one.
-use Rattle.std.proofs.Common.{◌≡◌, ℕ, ◌+◌, ◌<◌, ◌≤◌, Bool, true, false, ◌&&◌, ◌||◌, eqb, ◌⊎◌, List, length, get_or, set, replicate, sym, ap, ◌∙◌, inl, inr, add-one, arith}
+use Rattle.std.proofs.Common.{◌≡◌, ℕ, zero, suc, ◌+◌, ◌-◌, ◌<◌, ◌≤◌, Bool, true, false, ◌&&◌, ◌||◌, eqb, ◌⊎◌, List, length, get_or, set, replicate, sym, ap, ◌∙◌, inl, inr, add-one, arith}
 use Rattle.std.proofs.lemmas.List.{get_or_read, get_or-set_same, get_or-set_other, get_or-replicate, get_or_past, length-replicate}
 use Rattle.std.proofs.lemmas.Bool.{cases_eq, cases_lt, lt-ltb, eq-eqb, ne_eqb}
 use Rattle.naming.specs.DepthFirst.{of_tree}
@@ -36,3 +36,9 @@ marked_more link k x v z is lt all e = pick (cases_eq e x)
     pick (inr d) =
         get_or-set_other v x e true false d ∙ all e ∙
         sym (more link k e z ∙ ap (λ (b : Bool). b || of_tree link k e) (ne_eqb (link k) e (λ q. d (sym q ∙ sym is))))
+
+-- after the last, which is none where there is no number
+pub all_marked : (link : ℕ → ℕ) (m n e : ℕ) → m ≡ n - 1 → of_tree link (m + 1) e ≡ of_tree link n e
+unfolding of_tree
+all_marked link m zero e q = ap (λ (i : ℕ). of_tree link (i + 1) e) q
+all_marked link m (suc n) e q = ap (λ (i : ℕ). of_tree link i e) (let s : m + 1 ≡ suc n = omega arith in s)

@@ -2,7 +2,6 @@
 use Rattle.std.proofs.Common.{◌≡◌, ℕ, suc, ◌+◌, ◌-◌, ◌<◌, ◌≤◌, min, max, Bool, true, false, cond, ◌&&◌, eqb, ltb, ◌≢◌, ◌⊎◌, List, [], ◌∷◌, ◌++◌, length, filter, Some, sym, refl, ap, ◌∙◌, subst, ap₂, inl, inr, arith, length-append}
 use Rattle.std.specs.Option.{option_map}
 use Rattle.std.specs.List.{AllByRecursion}
-use Rattle.std.proofs.ByRecursion.{All-append}
 use Rattle.std.proofs.lemmas.List.Elements.{filter-append}
 use Rattle.std.proofs.lemmas.List.{map-append, length-map}
 use Rattle.std.proofs.lemmas.Bool.{cases_eq, cases_Bool, and_parts, ltb-true, ltb-false, eq-eqb, ne_eqb, cond-true, cond-false, cond_both}
@@ -18,13 +17,12 @@ use Rattle.naming.proofs.Bounded.{bounded}
 use Rattle.naming.proofs.Searched.{ready, cap_dst, searched_stands}
 use Rattle.naming.proofs.Turns.{numbers_more, turns}
 use Rattle.brackets.specs.declared.levels.Level.{Level}
-use Rattle.brackets.specs.declared.sweeping.Bracket.{Bracket}
+use Rattle.brackets.specs.declared.holding.Bracket.{Bracket}
 use Rattle.brackets.specs.Levels.{level, change, having_end, having_child, has_cap}
 use Rattle.brackets.specs.Live.{items, live, moved, with_start, with_cap, capped_levels}
 use Rattle.brackets.specs.Swept.{state, Swept}
 use Rattle.brackets.proofs.Changes.{change_same, change_other, change_long}
-use Rattle.brackets.proofs.Live.{put_same, put_other}
-use Rattle.brackets.proofs.Begun.{all_put}
+use Rattle.brackets.proofs.Live.{put_same, put_other, all_moved, all_passed, all_capped}
 
 module _ (P : Searched) (good : Upward P) where
   abbrev B : Base ℕ
@@ -67,10 +65,6 @@ module _ (P : Searched) (good : Upward P) where
       pick (inr t) next =
           let e = cond-false (ltb b.to v) (b ∷ bs) (live v bs) t in
           next (subst (λ l. Carries S v (items l)) e c) ∙ ap (λ l. option_map (λ b. b.item) (top l)) (sym e)
-
-  all_live : (v : ℕ) (bs : List Bracket) → AllByRecursion Right bs → AllByRecursion Right (live v bs)
-  all_live v [] a = tt
-  all_live v (b ∷ bs) a = cond_both (ltb b.to v) (b ∷ bs) (live v bs) (AllByRecursion Right) (λ _. a) (λ _. all_live v bs a.1)
 
   module _ (back : ℕ → ℕ) (counted : (v : ℕ) → v < P.size → length (ending_at S v (later B (suc v))) ≡ back v + cap_ends P (P.size - suc v) (suc v) v)
       (v : ℕ) (pv : 0 < v) (lv : v < P.size) (some : 0 < length_at P v) (rows : ℕ → List Bracket) (levels : List Level) (W : Swept P back (suc v) rows levels) where
@@ -132,20 +126,14 @@ module _ (P : Searched) (good : Upward P) where
         pick (inr t) = without t j
 
     right1 : (j : ℕ) → AllByRecursion Right (rows1 j)
-    right1 j = pick (cases_Bool (capped P v))
-      where
-        pick : (capped P v ≡ true) ⊎ (capped P v ≡ false) → AllByRecursion Right (rows1 j)
-        pick (inl t) =
-            subst (AllByRecursion Right) (sym (with t j))
-            (all_put Right rows (n + v) (cap ∷ rows (n + v)) W.right (hi2_told ∙ sym (cap_dst P good (P.many + v) v refl), W.right (n + v)) j)
-        pick (inr t) = subst (AllByRecursion Right) (sym (without t j)) (W.right j)
+    right1 = all_capped Right n P.many levels rows v (hi2_told ∙ sym (cap_dst P good (P.many + v) v refl)) W.right
 
     -- the own brackets go in front of the children's
     abbrev rows2 : ℕ → List Bracket
     rows2 = moved rows1 v (n + v)
 
     right2 : (j : ℕ) → AllByRecursion Right (rows2 j)
-    right2 = all_put Right (put rows1 (n + v) []) v (rows1 (n + v) ++ rows1 v) (all_put Right rows1 (n + v) [] right1 tt) (All-append Right (rows1 (n + v)) (rows1 v) (right1 (n + v)) (right1 v))
+    right2 = all_moved Right rows1 v (n + v) right1
 
     at_v : rows2 v ≡ rows1 (n + v) ++ rows v
     at_v = put_same (put rows1 (n + v) []) v (rows1 (n + v) ++ rows1 v) ∙ ap (λ l. rows1 (n + v) ++ l) (keep1 v (λ e. absurd (omega arith)))
@@ -184,10 +172,7 @@ module _ (P : Searched) (good : Upward P) where
     keep4 j d e f = put_other (put rows3 v []) u j (rows3 v ++ rows3 u) d ∙ put_other rows3 v j [] e ∙ put_other rows2 v j left e ∙ keep2 j e f
 
     right4 : (j : ℕ) → AllByRecursion Right (rows4 j)
-    right4 = all_put Right (put rows3 v []) u (rows3 v ++ rows3 u) (all_put Right rows3 v [] right3 tt) (All-append Right (rows3 v) (rows3 u) (right3 v) (right3 u))
-      where
-        right3 : (j : ℕ) → AllByRecursion Right (rows3 j)
-        right3 = all_put Right rows2 v left right2 (all_live v (rows2 v) (right2 v))
+    right4 = all_passed Right rows1 v (n + v) u right1
 
     -- the length of the list of v
     pub length_told : length (rows1 (n + v)) + (level levels v).len ≡ length_at P v + (level levels v).ends

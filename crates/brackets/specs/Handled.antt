@@ -1,19 +1,20 @@
 -- The numbers of a search from k on are handled.
-use Rattle.std.specs.Prelude.{◌≡◌, ℕ, ◌+◌, List, vec_items, vec_len}
-use Rattle.lists.specs.Rows.{Rows}
+use Rattle.std.specs.Prelude.{ℕ, length, vec_items}
+use Rattle.lists.specs.Many.{row}
 use Rattle.naming.specs.Classes.{top_at, length_at}
+use Rattle.search.specs.Spans.{link_of}
 use Rattle.brackets.specs.declared.spanning.Spanning.{Spanning}
-use Rattle.brackets.specs.declared.sweeping.Bracket.{Bracket}
-use Rattle.brackets.specs.declared.sweeping.Name.{Name}
-use Rattle.brackets.specs.declared.sweeping.Sweep.{Sweep}
-use Rattle.brackets.specs.Method.{size_of, method, back_ends_of}
-use Rattle.brackets.specs.Swept.{Swept}
+use Rattle.brackets.specs.declared.holding.Name.{Name}
+use Rattle.brackets.specs.declared.holding.Sweep.{Sweep}
+use Rattle.brackets.specs.Method.{links_of, visits_of, size_of, number_of, method, back_ends_of}
+use Rattle.brackets.specs.Swept.{Begun, Swept}
 
-pub record Handled (s : Spanning) (k : ℕ) (w : Sweep) : Type 0 where
-  pub rows : ℕ → List Bracket
-  pub held : Rows (vec_items w.brackets.arena.cells) (vec_items w.brackets.chains) rows
-  pub lists : vec_len w.brackets.chains ≡ size_of s + size_of s
-  pub swept : Swept (method s) (back_ends_of s) k rows (vec_items w.levels)
+-- all links of a search are looked at, and no number is handled
+abbrev pub Begins : Spanning → Sweep → Type 0
+Begins s w = Begun (links_of s) (size_of s) (number_of s) (link_of (visits_of s)) (length (links_of s)) (row w.brackets) (vec_items w.levels)
+
+abbrev pub Handled : Spanning → ℕ → Sweep → Type 0
+Handled s k w = Swept (method s) (back_ends_of s) k (row w.brackets) (vec_items w.levels)
 
 -- the name of the tree link above v, by the list of v as it is defined
 abbrev pub name_of : Spanning → ℕ → Name

@@ -1,5 +1,5 @@
 -- What is known of a number, step by step.
-use Rattle.std.specs.Prelude.{ℕ, ◌+◌, min, max, Bool, cond, ◌&&◌, List, Some, None, Option, nat_lt, slice_index_or, slice_set}
+use Rattle.std.specs.Prelude.{ℕ, ◌+◌, ◌^◌, ◌<◌, min, max, Bool, cond, ◌&&◌, List, length, Some, None, Option, nat_lt, slice_index_or, slice_set}
 use Rattle.brackets.specs.declared.levels.Level.{Level}
 
 abbrev pub bare : ℕ → Level
@@ -29,3 +29,7 @@ level ls k = slice_index_or ls k (bare 0)
 -- the levels, with that of k changed
 abbrev pub change : List Level → ℕ → (Level → Level) → List Level
 change ls k f = slice_set ls k (f (level ls k))
+
+-- one more bracket can be counted at each number
+abbrev pub Room : List Level → Type 0
+Room ls = (k : ℕ) → k < length ls → (level ls k).ends + 1 < 2 ^ 32

@@ -2,7 +2,7 @@
 use Rattle.std.specs.Prelude.{ℕ, ◌+◌, cond, List, [], ◌∷◌, ◌++◌, map, nat_lt}
 use Rattle.lists.specs.Rows.{put}
 use Rattle.brackets.specs.declared.levels.Level.{Level}
-use Rattle.brackets.specs.declared.sweeping.Bracket.{Bracket}
+use Rattle.brackets.specs.declared.holding.Bracket.{Bracket}
 use Rattle.brackets.specs.Levels.{has_cap, level, change, having_back_link, having_end}
 
 abbrev pub items : List Bracket → List ℕ

@@ -1,7 +1,7 @@
 -- A search of the closed plan as the method takes it.
-use Rattle.std.specs.Prelude.{◌≡◌, ℕ, ◌<◌, ◌≤◌, List, map, length, Some, None, vec_items, Option, slice_index_or}
+use Rattle.std.specs.Prelude.{◌≡◌, ℕ, ◌+◌, ◌^◌, ◌<◌, ◌≤◌, ◌↔◌, List, map, length, Some, None, vec_items, Option, slice_index_or}
 use Rattle.std.specs.Option.{unwrap_or}
-use Rattle.model.specs.Meaning.{EndsBelow, pair_of}
+use Rattle.model.specs.Meaning.{EndsBelow, tail_of, head_of, pair_of}
 use Rattle.model.specs.Walks.{Links}
 use Rattle.search.specs.Spans.{par_of, step_of, link_of}
 use Rattle.brackets.specs.declared.spanning.Spanning.{Spanning}
@@ -35,6 +35,15 @@ module _ (s : Spanning) where
   -- how many back links end at a number
   abbrev pub back_ends_of : ℕ → ℕ
   back_ends_of = back_ends links_of size_of number_of (link_of visits_of) (length links_of)
+
+  -- The steps and links that are named are there, the search came to both ends of a link or to none, and links and caps have numbers of 16 bits. The tree need not have every step.
+  pub record Bounded : Type 0 where
+    pub ends : EndsBelow (length numbers_of) links_of
+    pub linked : (k : ℕ) → 0 < k → k < size_of → link_of visits_of k < length links_of
+    pub both :
+        (e : ℕ) → e < length links_of →
+        (slice_index_or numbers_of (tail_of links_of e) None ≡ None) ↔ (slice_index_or numbers_of (head_of links_of e) None ≡ None)
+    pub few : length links_of + size_of < 2 ^ 16
 
   -- The tree has every step, and every tree link a bracket; and all is within the bounds of a plan.
   pub record Whole : Type 0 where

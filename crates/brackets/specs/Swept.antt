@@ -10,7 +10,7 @@ use Rattle.naming.specs.Turns.{later, State, Sofar}
 use Rattle.naming.specs.DepthFirst.{to_end, back_links}
 use Rattle.naming.specs.Ended.{back_ends, cap_ends}
 use Rattle.brackets.specs.declared.levels.Level.{Level}
-use Rattle.brackets.specs.declared.sweeping.Bracket.{Bracket}
+use Rattle.brackets.specs.declared.holding.Bracket.{Bracket}
 use Rattle.brackets.specs.Levels.{level}
 use Rattle.brackets.specs.Live.{items}
 

@@ -1,8 +1,8 @@
 // What is known of a number of the tree before it is handled.
-ghost use Rattle.std.specs.Prelude.{◌≡◌, ◌+◌, ◌^◌, ◌<◌, min};
+ghost use Rattle.std.specs.Prelude.{◌≡◌, ◌+◌, ◌-◌, ◌^◌, ◌<◌, min};
 ghost use Rattle.brackets.specs.Levels.{bare, having_back_link, having_end, having_child, cap_by};
 
-// `hi0` is the lowest number that its own upward back links reach. Of the lowest numbers that its children's subtrees reach, `hi1` is the lowest and `hi2` the second lowest, equal ones counted apart. Where nothing is reached, the count of all numbers stands. `len` is the length of its children's lists together, and `ends` tells how many brackets and caps end at it.
+// `hi0` is the lowest number that its own upward back links reach. Of the lowest numbers that its children's subtrees reach, `hi1` is the lowest and `hi2` the second lowest, equal ones counted apart. Where nothing is reached, the count of all numbers stands, which no number reaches, so that min and max are taken without cases. `len` is the length of its children's lists together, and `ends` tells how many brackets and caps end at it.
 #[derive(Clone, Copy)]
 pub struct Level {
     pub hi0: u16,
@@ -38,26 +38,31 @@ impl Level {
 
     // One bracket or cap more that ends here.
     pub(crate) fn with_end(self) -> Level
-        requires { self.ends + 1 < 2 ^ 32 }
-        ensures { result ≡ having_end self }
+        ensures { self.ends + 1 < 2 ^ 32 → result ≡ having_end self }
     {
         Level {
-            ends: self.ends + 1,
+            ends: self.ends.saturating_add(1),
             ..self
         }
     }
 
     // One child more: its subtree reaches up to `hi`, and its list has `len` items.
     pub(crate) fn with_child(self, hi: u16, len: u32) -> Level
-        requires { len + self.len < 2 ^ 32 }
-        ensures { result ≡ having_child self hi len }
+        ensures { len + self.len < 2 ^ 32 → result ≡ having_child self hi len }
     {
         Level {
             hi1: hi.min(self.hi1),
             hi2: hi.max(self.hi1).min(self.hi2),
-            len: len + self.len,
+            len: len.saturating_add(self.len),
             ..self
         }
+    }
+
+    // The length of its list, if it has `own` brackets and caps of its own: those that end at it are in its children's lists.
+    pub(crate) fn list_len(self, own: u32) -> u32
+        ensures { own + self.len < 2 ^ 32 → result ≡ own + self.len - self.ends }
+    {
+        own.saturating_add(self.len).saturating_sub(self.ends)
     }
 
     // The lowest number that the back links of its subtree reach.

@@ -1,4 +1,3 @@
 pub mod Bounds
 pub mod Named
 pub mod Held
-pub mod Sweeps

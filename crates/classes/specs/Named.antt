@@ -1,9 +1,6 @@
 -- The latest link that a bracket named.
 use Rattle.std.specs.Prelude.{ℕ, ◌<◌}
-use Rattle.classes.specs.declared.naming.Latest.{Latest}
-
-abbrev pub nothing : Latest
-nothing = record { len = 0; link = record { 0 = 0 } }
+use Rattle.classes.specs.declared.names.Latest.{Latest}
 
 -- the link is one of the closed plan's
 abbrev pub Named : ℕ → Latest → Type 0

@@ -1,9 +1,7 @@
 // The classes of a plan's links, by the brackets of a depth-first tree (Johnson, Pearson, Pingali 1994).
 #![tactic(auto)]
 
-pub mod brackets;
-pub mod levels;
-pub mod naming;
-pub mod sweeping;
+mod names;
+mod sweeping;
 
 pub use sweeping::classes;

@@ -1,118 +1,81 @@
-// The numbers from the last to the first: each list gets its own brackets and its cap, names its tree link, and joins its parent's.
-ghost use Rattle.std.specs.Prelude.{◌≡◌, ℕ, ◌+◌, ◌<◌, ◌≤◌, length, IfSome, IfOk, vec_len, OnOk};
+// The numbers from the last to the first: each tells the name of the tree link above it.
+ghost use Rattle.std.specs.Prelude.{◌≡◌, ◌+◌, ◌^◌, ◌<◌, ◌≤◌, length, IfOk, vec_len};
+ghost use Rattle.std.proofs.Props.{props};
+ghost use Rattle.brackets.specs.Method.{links_of, size_of, Bounded};
 ghost use Rattle.classes.specs.Bounds.{Below};
-ghost use Rattle.classes.specs.Sweeps.{Swept};
-ghost use Rattle.search.specs.Spans.{link_of};
+ghost use Rattle.classes.specs.Held.{Held};
 ghost use Rattle.theory.specs.Each.{Each};
 
-use crate::brackets::{Bracket, Started, back_links, live_top};
-use crate::naming::{Names, smallest};
+use crate::names::{Names, smallest};
+use brackets::{Spanning, Sweep};
 use lists::NoMemory;
 use model::LinkNo;
-use search::{Graph, Tree, Visit, closed_links, depth_first};
+use search::{Graph, Visit, closed_links, depth_first};
 use std::alloc::Global;
 
-// Pushes a cap on the own brackets of `v`, if it needs one.
-fn push_cap(started: &mut Started, v: u16, links: u16, items: u16) -> Result<(), NoMemory>
-    requires swept { Swept items (length started.old.levels.hi0.items) started.old }
-    requires within { v < length started.old.levels.hi0.items }
-    requires items { links + length started.old.levels.hi0.items ≤ items }
-    ensures { OnOk result (Swept items (length started.old.levels.hi0.items) started.new) }
-{
-    let Some(to) = started.levels.cap(v) else {
-        return Ok(());
-    };
-    let own = started.brackets.len() / 2 + v as usize;
-    started.brackets.push_at(
-        own,
-        Bracket {
-            item: links + v,
-            to,
-        },
-    )
+// A sweep over the numbers of a closed plan, and what was named so far. Each bracket of the lists is one of those that can have been named.
+#[derive(Drop)]
+struct Naming {
+    sweep: Sweep,
+    names: Names,
+    ghost held: { Held (length names.latest.items) sweep.brackets } by { Prim.hlevel props },
+    ghost caps: { names.links + vec_len sweep.levels ≤ length names.latest.items },
+    ghost few: { names.links + vec_len sweep.levels < 2 ^ 16 },
 }
 
-// Puts the own brackets of `v` in front of its children's, and answers the length of its list.
-fn own_in_front(started: &mut Started, v: u16, items: u16) -> u32
-    requires swept { Swept items (length started.old.levels.hi0.items) started.old }
-    requires within { v < length started.old.levels.hi0.items }
-    ensures { Swept items (length started.old.levels.hi0.items) started.new }
-{
-    let own = started.brackets.len() / 2 + v as usize;
-    let len = started.levels.length(v, started.brackets.size_at(own));
-    started.brackets.join_at(v as usize, own);
-    len
-}
-
-// Handles `v`: answers the live top and the length of its list, and joins the list to its parent's.
-fn turn(
-    started: &mut Started,
-    v: u16,
-    parent: u16,
-    links: u16,
-    items: u16,
-) -> Result<(Option<u16>, u32), NoMemory>
-    requires swept { Swept items (length started.old.levels.hi0.items) started.old }
-    requires within { v < length started.old.levels.hi0.items }
-    requires parent { parent < v }
-    requires items { links + length started.old.levels.hi0.items ≤ items }
-    ensures { IfOk result (λ t. Swept items (length started.old.levels.hi0.items) started.new × IfSome t.0 (λ i. i < items)) }
-{
-    push_cap(started, v, links, items)?;
-    let len = own_in_front(started, v, items);
-    let top = live_top(&mut started.brackets, v, items);
-    started.brackets.join_at(parent as usize, v as usize);
-    started.levels.rise(v, parent, len);
-    Ok((top, len))
-}
-
-// For each link of the closed plan, the first link that got its name. A back link, and a link with equal ends, is named by itself.
-fn first_links(
-    tree: &Tree,
-    started: &mut Started,
-    links: u16,
-    items: u16,
-    heap: Global,
-) -> Result<Vec<LinkNo>, NoMemory>
-    requires swept { Swept items (length tree.now.visits.items) started.old }
-    requires some { 0 < links }
-    requires items { links + length tree.now.visits.items ≤ items }
-    requires tree { (k : ℕ) → 0 < k → k < length tree.now.visits.items → link_of tree.now.visits.items k < links }
-    ensures { IfOk result (λ v. (length v.items ≡ links) × Each (Below links) (record { 0 = 0 }) v.items) }
-{
-    let mut firsts = own_names(links, heap)?;
-    let mut names = Names::new(links as usize, items as usize, heap)?;
-    for v in (0..tree.visits.len()).rev() {
-        if v == 0 {
-            continue;
-        }
-        let Visit { parent, link, .. } = tree.visits[v];
-        let (top, len) = turn(started, v as u16, parent, links, items)?;
-        firsts[link.0 as usize] = names.first_named(top, len, link);
+impl Naming {
+    // No number is handled yet.
+    fn new(search: &Spanning, heap: Global) -> Result<Naming, NoMemory>
+        requires { Bounded search.now }
+        ensures { IfOk result (λ n. (n.names.links ≡ length (links_of search.now)) × (vec_len n.sweep.levels ≡ size_of search.now)) }
+    {
+        let sweep = Sweep::new(search, heap)?;
+        let links = search.links.len() as u16;
+        let brackets = links + search.tree.visits.len() as u16;
+        let names = Names::new(links, brackets, heap)?;
+        Ok(Naming { sweep, names })
     }
-    Ok(firsts)
+
+    // Handles `v`: the first link with the name of the tree link above it.
+    fn turn(&mut self, v: u16, visit: Visit) -> Result<LinkNo, NoMemory>
+        requires within { v < vec_len self.old.sweep.levels }
+        requires parent { visit.parent < v }
+        requires link { visit.link.0 < self.old.names.links }
+        ensures below { IfOk result (λ l. l.0 < self.old.names.links) }
+        ensures links { self.new.names.links ≡ self.old.names.links }
+        ensures len { vec_len self.new.sweep.levels ≡ vec_len self.old.sweep.levels }
+    {
+        let name = self.sweep.handle(v, visit.parent, self.names.links)?;
+        Ok(self.names.first_named(name, visit.link))
+    }
 }
 
 // Each link by itself.
 fn own_names(links: u16, heap: Global) -> Result<Vec<LinkNo>, NoMemory>
     ensures { IfOk result (λ v. (length v.items ≡ links) × Each (Below links) (record { 0 = 0 }) v.items) }
 {
-    let mut names = Vec::new(heap);
-    for l in 0..links {
-        names.push(LinkNo(l))?;
+    Ok((0..links).map(LinkNo).collect(heap)?)
+}
+
+// For each link of the closed plan, the first link that got its name. A back link, and a link with equal ends, is named by itself.
+fn first_links(search: &Spanning, heap: Global) -> Result<Vec<LinkNo>, NoMemory>
+    requires { Bounded search.now }
+    ensures { IfOk result (λ v. (length v.items ≡ length (links_of search.now)) × Each (Below (length (links_of search.now))) (record { 0 = 0 }) v.items) }
+{
+    let mut firsts = own_names(search.links.len() as u16, heap)?;
+    let mut naming = Naming::new(search, heap)?;
+    for (v, visit) in search.tree.visits.iter().enumerate().skip(1).rev() {
+        firsts[visit.link.0 as usize] = naming.turn(v as u16, *visit)?;
     }
-    Ok(names)
+    Ok(firsts)
 }
 
 // For each link of a sound plan, the smallest link of its class.
 pub fn classes(graph: &Graph, heap: Global) -> Result<Vec<LinkNo>, NoMemory>
     ensures { IfOk result (λ v. (length v.items ≡ length graph.now.links.items) × Each (Below (length graph.now.links.items)) (record { 0 = 0 }) v.items) }
 {
-    let closed = closed_links(graph, heap)?;
+    let links = closed_links(graph, heap)?;
     let tree = depth_first(graph, heap)?;
-    let links = closed.len() as u16;
-    let items = links + tree.visits.len() as u16;
-    let mut started = back_links(&tree, closed.as_slice(), items, heap)?;
-    let firsts = first_links(&tree, &mut started, links, items, heap)?;
-    smallest(firsts.as_slice(), graph.links.len(), heap)
+    let firsts = first_links(&Spanning { links, tree }, heap)?;
+    smallest(&firsts, graph.links.len(), heap)
 }

@@ -1,31 +1,20 @@
-use Rattle.std.proofs.Common.{vec_items, refl, ◌∙◌}
-use Rattle.brackets.proofs.Live.{untouched, popped_less, all_ended, live_found, ended_goes}
+use Rattle.std.proofs.Common.{◌≡◌, ◌<◌, [], length, set, sym, ap, ◌∙◌, arith, length-set}
+use Rattle.std.proofs.lemmas.List.{get_or-set_same, set-set}
+use Rattle.lists.specs.Many.{row}
+use Rattle.lists.specs.Rows.{rest}
+use Rattle.brackets.specs.Live.{live}
+use Rattle.brackets.proofs.Live.{ended}
 use Rattle.brackets.proofs.sweeping.live_top.Goals as goal
 
-pub loop-top-init : goal.loop-top-init
-loop-top-init c = (refl, λ rows r. untouched _ _ rows c.args.v r)
-
-pub loop-top-smaller : goal.loop-top-smaller
-loop-top-smaller c =
-    let w = c.loop-top.brackets in
-    popped_less (vec_items w.arena.cells) (vec_items w.chains) c.args.v c.in-Some.top _ _ _ _ w.held c.in-Some.ensures c.pop_at.ensures.rows c.pop_at.ensures.total
-
 pub loop-top-preserved : goal.loop-top-preserved
-loop-top-preserved c = (
-  c.pop_at.ensures.len ∙ c.loop-top.invariant.0,
-  λ rows r. ended_goes _ _ _ _ rows c.args.v c.in-Some.top _ c.if-top-v.false c.in-Some.ensures c.pop_at.ensures.rows (c.loop-top.invariant.1 rows r),
-)
-
-pub returns-then-top-v : goal.returns-then-top-v
-returns-then-top-v c =
-    record {
-      rows = λ rows r. live_found _ _ rows c.args.v c.in-Some.top c.if-top-v.true (c.loop-top.invariant.1 rows r) c.in-Some.ensures;
-      lists = c.loop-top.invariant.0;
-    }
-
-pub returns : goal.returns
-returns c =
-    record {
-      rows = λ rows r. all_ended _ _ rows c.args.v (c.loop-top.invariant.1 rows r) c.in_default.ensures;
-      lists = c.loop-top.invariant.0;
-    }
+loop-top-preserved c =
+    let t = c.loop-top.brackets in
+    let v = c.args.v in
+    let i = c.loop-top.invariant in
+    let p = c.pop_at.ensures.lists in
+    let left = rest (row t v) in
+    let lt : v < length t = omega (arith, ap length i.0, length-set c.args.brackets.now v (row t v), c.requires) in
+    let same : row c.pop_at.new.self v ≡ left = ap (λ s. row s v) p ∙ get_or-set_same t v left [] lt in (
+      p ∙ ap (λ s. set s v left) i.0 ∙ set-set c.args.brackets.now v (row t v) left ∙ ap (set c.args.brackets.now v) (sym same),
+      i.1 ∙ ended v c.in-Some.top (row t v) c.in-Some.ensures c.if-top-v.false ∙ ap (live v) (sym same),
+    )

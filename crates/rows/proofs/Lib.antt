@@ -1,3 +1,6 @@
-pub mod Grows
-pub mod Numbers
+pub mod Counts
+pub mod Depths
+pub mod Gathers
+pub mod Sited
+pub mod There
 pub mod Nested

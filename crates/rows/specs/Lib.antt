@@ -1,5 +1,8 @@
 pub mod Bounds
-pub mod Nests
 pub mod Kinds
+pub mod Nests
+pub mod Counts
 pub mod Orders
+pub mod Pairs
 pub mod Runs
+pub mod Listed

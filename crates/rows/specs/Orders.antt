@@ -1,24 +1,29 @@
--- Records of fragments that are there.
-use Rattle.std.specs.Prelude.{◌≡◌, ℕ, ◌<◌, ◌≤◌, List, length}
-use Rattle.theory.specs.Each.{Each}
-use Rattle.rows.specs.Nests.{no_fragment}
+-- Records of fragments that are there, and the lists that they are moved through.
+use Rattle.std.specs.Prelude.{ℕ, ◌<◌, List, [], ◌∷◌, ◌++◌, slice_set}
+use Rattle.std.specs.Option.{IsSome}
+use Rattle.lists.specs.Many.{row}
+use Rattle.rows.specs.Nests.{no_fragment, SiteIn}
 use Rattle.rows.specs.declared.arranging.Record.{Record}
 
 -- of n fragments, number k stands after number j
 abbrev pub After : ℕ → ℕ → ℕ → Type 0
 After n j k = (j < k) × (k < n)
 
--- the record's fragment and its parent are among n fragments
+-- the record's fragment and its parent are among n fragments, its entry and its exit among m links
 abbrev pub Known : ℕ → ℕ → Record → Type 0
-Known n j r = (r.number < n) × (r.fragment.parent < n)
+Known m n r = (r.number < n) × SiteIn m n r.fragment
+
+-- the record's fragment has a site unless it is number 0, the whole plan
+abbrev pub Lies : Record → Type 0
+Lies r = 0 < r.number → IsSome r.fragment.site
 
 abbrev pub no_record : Record
 no_record = record { number = 0; fragment = no_fragment }
 
--- records of n fragments in a row, with as many depths; each fragment has a row
-pub record Numbering (n : ℕ) (records : List Record) (depths row_of : List ℕ) : Type 0 where
-  pub few : length records ≤ n
-  pub paired : length depths ≡ length records
-  pub known : Each (Known n 0) no_record records
-  pub each : length row_of ≡ n
-  pub rows : Each (λ r. r < n) 0 row_of
+abbrev pub depth_of : Record → ℕ
+depth_of r = r.fragment.depth
+
+-- the lists at each of ks, one after the other, are moved in front of the list at k
+abbrev pub gathered : {T : Type 0} → List (List T) → ℕ → List ℕ → List (List T)
+gathered t k [] = t
+gathered t k (c ∷ cs) = gathered (slice_set (slice_set t c []) k (row t c ++ row t k)) k cs

@@ -1,12 +1,14 @@
 // From the classes of a plan's links to its rows: canonical fragments, how they nest, their kinds, and their order.
 #![tactic(auto)]
 
-pub mod arranging;
-pub mod counting;
-pub mod kinding;
+mod arranging;
+pub mod classing;
+mod counting;
+mod kinding;
 pub mod listing;
-pub mod nesting;
-pub mod pairing;
-pub mod running;
+mod nesting;
+mod pairing;
+mod running;
 
-pub use listing::{Arranged, arrange};
+pub use classing::Classed;
+pub use listing::{Arranged, RowRun};

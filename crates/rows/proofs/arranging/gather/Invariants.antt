@@ -1,15 +1,16 @@
-use Rattle.std.proofs.Common.{◌≡◌, vec_items, vec_len}
-use Rattle.lists.specs.Holding.{Holding}
-use Rattle.lists.specs.Rows.{total}
-use Rattle.rows.specs.Orders.{After, Known}
+use Rattle.std.proofs.Common.{◌≡◌, length, set}
+use Rattle.std.specs.List.{All}
+use Rattle.lists.specs.Many.{row}
+use Rattle.rows.specs.Orders.{After, gathered}
 use Rattle.rows.proofs.arranging.gather.Given as goal
 
 abbrev pub invariant-loop-child : goal.invariant-loop-child
-invariant-loop-child l =
-    (vec_len l.below.chains ≡ vec_len l.initial.below.chains)
-    × (vec_len l.children.chains ≡ vec_len l.initial.children.chains)
-    × Holding (After (vec_len l.initial.below.chains)) (vec_items l.children.arena.cells) (vec_items l.children.chains)
-    × Holding (Known (vec_len l.initial.below.chains)) (vec_items l.below.arena.cells) (vec_items l.below.chains)
+invariant-loop-child l = record {
+  long : length l.below ≡ length l.initial.below;
+  same : l.children ≡ set l.initial.children l.k (row l.children l.k);
+  after : All (After (length l.initial.below) l.k) (row l.children l.k);
+  left : gathered l.below l.k (row l.children l.k) ≡ gathered l.initial.below l.k (row l.initial.children l.k);
+}
 
 abbrev pub decreases-loop-child : goal.decreases-loop-child
-decreases-loop-child l = total (vec_items l.children.chains)
+decreases-loop-child l = length (row l.children l.k)

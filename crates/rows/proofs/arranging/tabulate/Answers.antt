@@ -1,30 +1,35 @@
-use Rattle.std.proofs.Common.{◌<◌, ◌≤◌, length, replicate, IfSome, vec_items, vec_len, Option, refl, ap, ◌∙◌, subst, arith}
-use Rattle.lists.proofs.Holding.{holding_pop}
+use Rattle.std.proofs.Common.{◌≡◌, ◌<◌, ◌++◌, List, [], ◌∷◌, length, Option, IfSome, vec_items, sym, ap, ◌∙◌, subst, arith, length-append, length-set}
+use Rattle.std.specs.List.{All}
+use Rattle.std.proofs.lemmas.List.{get_or-set_same, append_assoc}
+use Rattle.lists.specs.Rows.{rest}
+use Rattle.lists.specs.Many.{row}
+use Rattle.lists.proofs.Many.{top_some, all_top, all_rest}
+use Rattle.theory.proofs.Elements.{each_set}
 use Rattle.rows.specs.declared.arranging.Record.{Record}
-use Rattle.rows.specs.Orders.{Known}
-use Rattle.rows.proofs.Numbers.{numbering_none, numbering_more}
 use Rattle.rows.proofs.arranging.tabulate.Goals as goal
 
-pub loop-row-init : goal.loop-row-init
-loop-row-init c =
-    let n = vec_len c.args.below.chains in (
-      refl,
-      c.requires.known,
-      numbering_none n _ _ _ c.requires.some c.new-records.ensures.items c.new-depths.ensures.items
-          (c.in_ok-row_of.ensures.items_if_clones_equal (λ y e. e) ∙ ap (λ m. replicate m 0) c.len-count.ensures),
-      omega (arith, ap length c.new-records.ensures.items),
-    )
+pub index_mut-requires : goal.index_mut-requires
+index_mut-requires c =
+    let n = length c.args.below in
+    let known = c.loop-record.invariant in
+    let lt = subst (λ (o : Option Record). IfSome o (λ r. r.number < n)) (sym c.in-Some.ensures.top) (all_top (λ (r : Record). r.number < n) (row c.loop-record.below 0) known.known) in
+    omega (arith, lt, known.each, c.loop-record.row_of.ok.0)
 
-pub loop-row-preserved : goal.loop-row-preserved
-loop-row-preserved c =
-    let n = vec_len c.args.below.chains in
-    let i = c.loop-row.invariant in
-    let p = holding_pop (Known n) _ _ _ _ 0 _ c.pop_at.ensures.rows i.1 in
-    let known : Known n 0 c.in-Some.record = subst (λ (o : Option Record). IfSome o (Known n 0)) c.in-Some.is p.1 in
-    let row : c.loop-row.row < n = omega (arith, c.len-count.ensures) in
-    let le : length (vec_items c.loop-row.records) ≤ c.loop-row.row = i.3 in (
-      c.pop_at.ensures.len ∙ i.0,
-      p.0,
-      numbering_more n _ _ _ _ _ c.in-Some.record _ c.loop-row.row row le known c.in_ok-push.ensures.items c.in_ok-push-2.ensures.items i.2,
-      omega (arith, i.3, c.in_ok-push.ensures.len, c.loop-row.records.ok.0, c.push.new.self.ok.0),
-    )
+pub loop-record-preserved : goal.loop-record-preserved
+loop-record-preserved c =
+    let n = length c.args.below in
+    let old = c.loop-record.below in
+    let known = c.loop-record.invariant in
+    let lt : 0 < length old = omega (arith, known.long, c.requires.some) in
+    let popped = c.in-Some.ensures.lists in
+    let left : row c.pop_at.new.self 0 ≡ rest (row old 0) = ap (λ (t : List (List Record)). row t 0) popped ∙ get_or-set_same old 0 (rest (row old 0)) _ lt in
+    let taken = top_some c.in-Some.record (row old 0) c.in-Some.ensures.top in
+    let more : length (vec_items c.loop-record.records) < n = omega (arith, length-append (vec_items c.loop-record.records) (row old 0), ap length known.taken, ap length taken, c.requires.short) in
+    record {
+      long = ap length popped ∙ length-set old 0 (rest (row old 0)) ∙ known.long;
+      taken = ap (λ (t : List Record). t ++ row c.pop_at.new.self 0) c.in_ok-push.ensures.items ∙ append_assoc (vec_items c.loop-record.records) (c.in-Some.record ∷ []) (row c.pop_at.new.self 0)
+          ∙ ap (λ (t : List Record). vec_items c.loop-record.records ++ (c.in-Some.record ∷ t)) left ∙ ap (λ (t : List Record). vec_items c.loop-record.records ++ t) (sym taken) ∙ known.taken;
+      known = subst (All (λ (r : Record). r.number < n)) (sym left) (all_rest (λ (r : Record). r.number < n) (row old 0) known.known);
+      each = length-set (vec_items c.loop-record.row_of) c.in-Some.record.number _ ∙ known.each;
+      rows = each_set (λ r. r < n) 0 (vec_items c.loop-record.row_of) c.in-Some.record.number _ known.rows (omega (arith, more, c.loop-record.records.ok.0, c.len-in-Some.ensures));
+    }

@@ -1,6 +1,6 @@
-use Rattle.theory.proofs.Elements.{each_read}
-use Rattle.rows.specs.Nests.{no_fragment, ParentBelow}
+use Rattle.std.proofs.Common.{arith}
+use Rattle.rows.proofs.Sited.{site-read}
 use Rattle.rows.proofs.nesting.Nesting.left.Goals as goal
 
-pub returns-in-Some : goal.returns-in-Some
-returns-in-Some c = each_read (ParentBelow _) no_fragment _ _ _ c.args.self.now.parents c.requires c.index.ensures
+pub returns-then-eq-clause-within : goal.returns-then-eq-clause-within
+returns-then-eq-clause-within c = omega (arith, (site-read _ _ _ _ c.args.self.now.sites c.requires c.index.ensures c.in-Some.is).0, c.requires)

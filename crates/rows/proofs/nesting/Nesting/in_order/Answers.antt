@@ -1,0 +1,100 @@
+use Rattle.std.proofs.Common.{◌≡◌, ◌<◌, ℕ, List, [], ◌∷◌, ◌++◌, length, sum_by, vec_items, sym, ap, ◌∙◌, subst, arith, length-set}
+use Rattle.std.specs.List.{All}
+use Rattle.std.proofs.lemmas.List.{length_push, length-replicate}
+use Rattle.std.proofs.lemmas.List.Folds.{sum_by-replicate}
+use Rattle.std.proofs.lemmas.List.Elements.{All-nil, All-cons}
+use Rattle.std.proofs.lemmas.List.Sums.{sum_by-set}
+use Rattle.lists.specs.Many.{row, EachItem}
+use Rattle.lists.proofs.Many.{each-set, each-replicate}
+use Rattle.rows.specs.declared.arranging.Record.{Record}
+use Rattle.rows.specs.declared.nesting.Fragment.{Fragment}
+use Rattle.rows.specs.Nests.{SiteIn, Sites, Placed}
+use Rattle.rows.specs.Orders.{After, Known, Lies}
+use Rattle.rows.proofs.Gathers.{length-gathered, sum-gathered, each-gathered}
+use Rattle.rows.proofs.Sited.{site-last, sites-front, placed-last, placed-front}
+use Rattle.rows.proofs.nesting.Nesting.in_order.Goals as goal
+use Rattle.rows.proofs.nesting.Nesting.in_order.Goals.{In-Some}
+
+-- what is left of the fragments, and the last of them
+taken : (c : In-Some) → c.loop-k.k-iterator.iter.iter.rest.now ≡ c.next.new.self.iter.iter.rest.now ++ c.in-Some.fragment.now ∷ []
+taken c = c.in-Some.ensures.steps.1.0
+
+number : (c : In-Some) → c.in-Some.k ≡ length c.next.new.self.iter.iter.rest.now
+number c = omega (arith, c.in-Some.ensures.steps.1.1, c.loop-k.invariant.first)
+
+within : (c : In-Some) → c.in-Some.k < length (vec_items c.args.self.now.fragments)
+within c = omega (arith, number c, ap length (taken c), length_push c.next.new.self.iter.iter.rest.now c.in-Some.fragment.now, c.loop-k.invariant.counted)
+
+pub loop-k-init : goal.loop-k-init
+loop-k-init c =
+    let s = c.args.self.now in
+    let n = length (vec_items s.fragments) in
+    let m = length (vec_items s.entered) in
+    let all : c.into_iter-k-iterator.result.iter.iter.rest.now ≡ vec_items s.fragments = cc in
+    let none = c.in_ok-below.ensures in
+    let long = length-replicate {A = List Record} c.len.result [] in
+    record {
+      first = cc;
+      sites = subst (Sites m) (sym all) s.sites;
+      placed = subst Placed (sym all) s.placed;
+      counted = omega (arith, ap (sum_by length) none, sum_by-replicate {X = List Record} length c.len.result [], ap length all, c.len.ensures, s.fragments.ok.0);
+      lists = omega (arith, ap length none, long, c.len.ensures, s.fragments.ok.0);
+      same = c.in_ok-children.ensures.0;
+      after = c.in_ok-children.ensures.1;
+      known = subst (EachItem (λ _. Known m n)) (sym none) (each-replicate (λ _. Known m n) c.len.result);
+      lies = subst (EachItem (λ _. Lies)) (sym none) (each-replicate (λ _. Lies) c.len.result);
+    }
+
+pub gather-requires : goal.gather-requires
+gather-requires c =
+    let k = c.in-Some.k in
+    let known = c.loop-k.invariant in
+    let lt = within (goal.at.gather-requires c).In-Some in
+    record {
+      within = omega (arith, lt, known.lists);
+      same = known.same ∙ sym known.lists;
+      after = subst (λ (j : ℕ). All (After j k) (row c.loop-k.children k)) (sym known.lists) (known.after k (omega (arith, lt, known.same)));
+    }
+
+pub push_at-requires : goal.push_at-requires
+push_at-requires c =
+    let k = c.in-Some.k in
+    omega (arith, within (goal.at.push_at-requires c).In-Some, ap length c.gather.ensures.below, length-gathered c.loop-k.below k (row c.loop-k.children k), c.loop-k.invariant.lists)
+
+pub loop-k-preserved : goal.loop-k-preserved
+loop-k-preserved c =
+    let i = (goal.at.loop-k-preserved c).In-Some in
+    let s = c.args.self.now in
+    let n = length (vec_items s.fragments) in
+    let m = length (vec_items s.entered) in
+    let k = c.in-Some.k in
+    let known = c.loop-k.invariant in
+    let left = c.next.new.self.iter.iter.rest.now in
+    let fragment : Fragment = c.in-Some.fragment.now in
+    let sites : Sites m (left ++ fragment ∷ []) = subst (Sites m) (taken i) known.sites in
+    let site : SiteIn m k fragment = subst (λ (j : ℕ). SiteIn m j fragment) (sym (number i)) (site-last m left fragment sites) in
+    let placed : Placed (left ++ fragment ∷ []) = subst Placed (taken i) known.placed in
+    let old = c.loop-k.below in
+    let moved = row c.loop-k.children k in
+    let lt : k < length old = omega (arith, within i, known.lists) in
+    let after : All (After (length old) k) moved = subst (λ (j : ℕ). All (After j k) moved) (sym known.lists) (known.after k (omega (arith, within i, known.same))) in
+    let g = c.gather.new.below in
+    let e = c.gather.ensures.below in
+    let long : length g ≡ n = ap length e ∙ length-gathered old k moved ∙ known.lists in
+    let gathered : EachItem (λ _. Known m n) g = subst (EachItem (λ _. Known m n)) (sym e) (each-gathered (Known m n) old k moved lt after known.known) in
+    let lying : EachItem (λ _. Lies) g = subst (EachItem (λ _. Lies)) (sym e) (each-gathered Lies old k moved lt after known.lies) in
+    let p = c.in_ok-push_at.ensures in
+    let r : Record = record { number = k; fragment = fragment } in
+    let here : Known m n r = (within i, λ q is. let at = site q is in (omega (arith, at.0, within i), at.1, at.2)) in
+    let lies : Lies r = λ first. placed-last left fragment placed (omega (arith, first, number i)) in
+    record {
+      first = c.in-Some.ensures.steps.0 ∙ known.first;
+      sites = sites-front m left fragment sites;
+      placed = placed-front left fragment placed;
+      counted = omega (arith, ap (sum_by length) p, ap (sum_by length) e, sum-gathered old k moved lt after, sum_by-set length g k (r ∷ row g k) [] (omega (arith, long, within i)), ap length (taken i), length_push left fragment, known.counted);
+      lists = ap length p ∙ length-set g k _ ∙ long;
+      same = ap length c.gather.ensures.children ∙ length-set c.loop-k.children k [] ∙ known.same;
+      after = subst (EachItem (After n)) (sym c.gather.ensures.children) (each-set (After n) c.loop-k.children k [] known.after (All-nil (After n k)));
+      known = subst (EachItem (λ _. Known m n)) (sym p) (each-set (λ _. Known m n) g k _ gathered (All-cons (Known m n) r (row g k) here (gathered k (omega (arith, long, within i)))));
+      lies = subst (EachItem (λ _. Lies)) (sym p) (each-set (λ _. Lies) g k _ lying (All-cons Lies r (row g k) lies (lying k (omega (arith, long, within i)))));
+    }

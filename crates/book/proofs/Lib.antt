@@ -1,3 +1,2 @@
-pub mod Logics
-pub mod Alone
 pub mod Bounds
+pub mod Entries

@@ -5,11 +5,12 @@ use Rattle.model.specs.declared.numbers.RowNo.{RowNo}
 use Rattle.model.specs.declared.numbers.StepNo.{StepNo}
 use Rattle.model.specs.declared.rowing.Row.{Row}
 use Rattle.book.specs.declared.books.Book.{Book}
+use Rattle.book.specs.Tables.{rows_in, runs_in}
 use Rattle.book.specs.declared.faults.BookFault.{BookFault}
 use Rattle.book.specs.declared.faults.BookFault.TheVariants.{NoStep, NoLink}
 
 abbrev pub rows_of : Book → List Row
-rows_of b = vec_items b.table.rows
+rows_of b = rows_in (vec_items b.table.entries)
 
 abbrev pub next_of : Book → ℕ
 next_of b = b.cursor.next
@@ -33,7 +34,7 @@ abbrev pub home_of : Book → ℕ → ℕ
 home_of b s = (get_or (vec_items b.homes) s (record { 0 = 0 })).0
 
 abbrev pub run_of : Book → ℕ → ℕ
-run_of b i = slice_index (vec_items b.table.runs) i
+run_of b i = slice_index (runs_in (vec_items b.table.entries)) i
 
 -- row j stands in the run of row i
 abbrev pub InRun : Book → ℕ → ℕ → Type 0

@@ -1,3 +1,4 @@
 pub mod Faults
+pub mod Tables
 pub mod Calls
 pub mod Opens

@@ -3,8 +3,8 @@ use crate::places::Cursor;
 use crate::tables::Table;
 use model::{LinkNo, RowNo};
 
-pub mod calls;
-pub mod opening;
+mod calls;
+mod opening;
 
 #[derive(Drop)]
 pub struct Book {

@@ -3,7 +3,7 @@ ghost use Rattle.std.specs.Prelude.{◌≡◌};
 
 // The row that is told next.
 #[derive(Clone, Copy)]
-pub struct Cursor {
+pub(crate) struct Cursor {
     pub(crate) next: u16,
 }
 
@@ -17,10 +17,7 @@ impl Drop for CursorGuard<'_> {
     fn drop(self)
         ensures { self.exit.0.now ≡ self.entry.saved }
     {
-        *self.cursor = self.saved;
-        let CursorGuard {
-            cursor: _,
-            saved: _,
-        } = self;
+        let CursorGuard { cursor, saved } = self;
+        *cursor = saved;
     }
 }

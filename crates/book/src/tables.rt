@@ -1,55 +1,71 @@
-// The rows with their runs and marks. Any two runs are apart, or one lies within the other: that is in the type.
-ghost use Rattle.std.specs.Prelude.{◌≡◌, ℕ, ◌+◌, ◌^◌, ◌<◌, ◌≤◌, length, replicate, IfOk, None, slice_index, slice_index_or};
+// The rows with their runs and holders. Any two runs are apart, or one lies within the other: that is in the type.
+ghost use Rattle.std.specs.Prelude.{◌≡◌, ◌+◌, ◌^◌, ◌<◌, ◌≤◌, map, length, IfOk, MatchOption, slice_index};
+ghost use Rattle.std.specs.List.{slice_get};
 ghost use Rattle.rows.specs.Runs.{NestedRuns};
+ghost use Rattle.rows.specs.declared.listing.RowRun.{RowRun};
+ghost use Rattle.book.specs.Tables.{rows_in, runs_in, entry_of};
 
 use lists::NoMemory;
 use model::Row;
+use rows::RowRun;
 use std::alloc::Global;
+use std::ops::Range;
 
-// The rows in their order, how many rows the run of each has, and the holder of each row that is out.
+// A row, how many rows its run has, and who holds it while it is out.
+#[derive(Clone, Copy)]
+pub(crate) struct Entry {
+    pub(crate) row: Row,
+    pub(crate) run: u16,
+    pub(crate) holder: Option<u16>,
+}
+
+// The rows with their runs, none of them out.
+fn entries(rows: &[RowRun], heap: Global) -> Result<Vec<Entry>, NoMemory>
+    ensures { IfOk result (λ v. v.items ≡ map entry_of rows.now) }
+{
+    let entries = rows
+        .iter()
+        .map(|&RowRun { row, run }| Entry {
+            row,
+            run,
+            holder: None,
+        })
+        .collect(heap)?;
+    Ok(entries)
+}
+
+// The rows in their order.
 #[derive(Drop)]
-pub struct Table {
-    pub(crate) rows: Vec<Row>,
-    pub(crate) runs: Vec<u16>,
-    pub(crate) marks: Vec<Option<u16>>,
-    ghost few: { length rows.items < 2 ^ 16 },
-    ghost each: { length runs.items ≡ length rows.items },
-    ghost paired: { length marks.items ≡ length rows.items },
-    ghost some: { ((i : ℕ) → i < length runs.items → 1 ≤ slice_index runs.items i) },
-    ghost room: { ((i : ℕ) → i < length runs.items → i + slice_index runs.items i ≤ length runs.items) },
-    ghost nested: { ((i j : ℕ) → i < j → j < i + slice_index runs.items i → j + slice_index runs.items j ≤ i + slice_index runs.items i) },
+pub(crate) struct Table {
+    pub(crate) entries: Vec<Entry>,
+    ghost few: { length entries.items < 2 ^ 16 },
+    ghost nested: { NestedRuns (runs_in entries.items) },
 }
 
 impl Table {
     // The rows with no row out.
-    pub(crate) fn new(rows: Vec<Row>, runs: Vec<u16>, heap: Global) -> Result<Table, NoMemory>
-        requires few { length rows.items < 2 ^ 16 }
-        requires each { length runs.items ≡ length rows.items }
-        requires nested { NestedRuns runs.items }
-        ensures { IfOk result (λ t. (t.rows ≡ rows) × (t.runs ≡ runs) × (t.marks.items ≡ replicate (length rows.items) None)) }
+    pub(crate) fn new(rows: &[RowRun], heap: Global) -> Result<Table, NoMemory>
+        requires few { length rows.now < 2 ^ 16 }
+        requires nested { NestedRuns (map (λ (r : RowRun). r.run) rows.now) }
+        ensures { IfOk result (λ t. t.entries.items ≡ map entry_of rows.now) }
     {
-        let marks = vec![in heap; None; rows.len()]?;
-        Ok(Table { rows, runs, marks })
+        let entries = entries(rows, heap)?;
+        Ok(Table { entries })
     }
 
-    pub(crate) fn len(&self) -> u16
-        ensures { result ≡ length self.now.rows.items }
+    // The row at `at`, if there is one.
+    pub(crate) fn row(&self, at: u16) -> Option<Row>
+        ensures { result ≡ slice_get (rows_in self.now.entries.items) at }
     {
-        self.rows.len() as u16
+        self.entries.get(at as usize).map(|entry| entry.row)
     }
 
-    pub(crate) fn row(&self, at: u16) -> Row
-        requires { at < length self.now.rows.items }
-        ensures { result ≡ slice_index_or self.now.rows.items at result }
+    // The run of the row at `at`, if there is one: it begins with the row itself.
+    #[tactic(auto, using(crate::proofs::Entries::run_within))]
+    pub(crate) fn run(&self, at: u16) -> Option<Range<u16>>
+        ensures { MatchOption result (length self.now.entries.items ≤ at) (λ r. (at < length self.now.entries.items) × (r.start ≡ at) × (r.end ≡ at + slice_index (runs_in self.now.entries.items) at)) }
     {
-        self.rows[at as usize]
-    }
-
-    // The first row after the run of row `at`.
-    pub(crate) fn run_end(&self, at: u16) -> usize
-        requires { at < length self.now.rows.items }
-        ensures { result ≡ at + slice_index self.now.runs.items at }
-    {
-        at as usize + self.runs[at as usize] as usize
+        let entry = self.entries.get(at as usize)?;
+        Some(at..at + entry.run)
     }
 }

@@ -3,7 +3,6 @@
 
 use anyhow::anyhow;
 use listing::answer;
-use lists::NoMemory;
 use std::io;
 use std::io::{Read, Write};
 
@@ -16,15 +15,9 @@ fn read_text(rt: &HostRuntime) -> io::Result<Vec<u8>> {
     Ok(text)
 }
 
-fn run(rt: &HostRuntime) -> anyhow::Result<()> {
-    let text = read_text(rt)?;
-    match answer(text.as_slice(), rt.alloc()) {
-        Ok(lines) => rt.stdout().write_all(lines.as_slice())?,
-        Err(NoMemory) => return Err(anyhow!("no memory for the plan")),
-    }
-    Ok(())
-}
-
 fn main(rt: HostRuntime) -> anyhow::Result<()> {
-    run(&rt)
+    let text = read_text(&rt)?;
+    let lines = answer(&text, rt.alloc()).map_err(|_| anyhow!("no memory for the plan"))?;
+    rt.stdout().write_all(&lines)?;
+    Ok(())
 }

@@ -1,6 +1,7 @@
 // The calls of an open book. None of them takes memory.
-ghost use Rattle.std.specs.Prelude.{◌≡◌};
-ghost use Rattle.book.specs.Calls.{at_row, Next, class_of, Found};
+ghost use Rattle.std.specs.Prelude.{◌≡◌, ◌-◌, length};
+ghost use Rattle.std.specs.Iterator.{at_most};
+ghost use Rattle.book.specs.Calls.{rows_of, next_of, at_row, Next, class_of, Found};
 
 use crate::books::Book;
 use crate::faults::BookFault;
@@ -12,12 +13,9 @@ impl Book {
     pub fn next(&mut self) -> Option<Row>
         ensures { Next self.old result self.new }
     {
-        let at = self.cursor.next;
-        if at >= self.table.len() {
-            return None;
-        }
-        self.cursor = Cursor { next: at + 1 };
-        Some(self.table.row(at))
+        let row = self.table.row(self.cursor.next)?;
+        self.cursor.next += 1;
+        Some(row)
     }
 
     // The listing goes back to its start.
@@ -31,38 +29,48 @@ impl Book {
     pub fn class(&self, link: LinkNo) -> Result<LinkNo, BookFault>
         ensures { result ≡ class_of self.now link }
     {
-        let at = link.0 as usize;
-        if at >= self.classes.len() {
-            return Err(BookFault::NoLink(link));
-        }
-        Ok(self.classes[at])
+        self.classes
+            .get(link.0 as usize)
+            .copied()
+            .ok_or(BookFault::NoLink(link))
     }
 
-    // The row of fewest steps that the step is inside: the last one whose run has the step's home. Walks with the listing's own place.
+    // The row of fewest steps that the step is inside: the last one whose run has the step's home.
+    // A rule of the project: the walk has the listing's own place, and the guard puts that back whichever way out is taken.
     pub fn find(&mut self, step: StepNo) -> Result<RowNo, BookFault>
         ensures same { self.new ≡ self.old }
         ensures found { Found self.old step result }
     {
-        let table = &self.table;
-        let homes = &self.homes;
-        let saved = self.cursor;
-        let guard = CursorGuard {
-            cursor: &mut self.cursor,
-            saved,
-        };
-        if step.0 as usize >= homes.len() {
-            return Err(BookFault::NoStep(step));
-        }
-        let home = homes[step.0 as usize].0;
+        let Book {
+            homes,
+            table,
+            cursor,
+            ..
+        } = self;
+        let saved = *cursor;
+        let guard = CursorGuard { cursor, saved };
+        let RowNo(home) = *homes.get(step.0 as usize).ok_or(BookFault::NoStep(step))?;
         let mut found = RowNo(0);
         guard.cursor.next = 0;
-        while guard.cursor.next < table.len() {
-            let row = guard.cursor.next;
-            if row <= home && (home as usize) < table.run_end(row) {
-                found = RowNo(row);
+        while let Some(run) = table.run(guard.cursor.next) {
+            if run.contains(&home) {
+                found = RowNo(run.start);
             }
-            guard.cursor.next = row + 1;
+            guard.cursor.next += 1;
         }
         Ok(found)
+    }
+}
+
+// The rows of the listing, from its place on.
+impl Iterator for Book {
+    type Item = Row;
+
+    ghost next_gives = { Next };
+
+    ghost remaining = { λ b. at_most (length (rows_of b) - next_of b) };
+
+    fn next(&mut self) -> Option<Row> {
+        Book::next(self)
     }
 }

@@ -9,27 +9,11 @@ use crate::places::Cursor;
 use crate::tables::Table;
 use classes::classes;
 use lists::NoMemory;
-use model::{Kind, LinkNo, Logic, Row, RowNo, StepNo};
-use plan::Plan;
-use rows::{Arranged, arrange};
-use search::{Graph, ShapeFault, sound_order};
+use model::{Kind, LinkNo, Row, RowNo};
+use plan::{Graph, Plan, logics_of};
+use rows::{Arranged, Classed, RowRun};
+use search::{ShapeFault, sound_order};
 use std::alloc::Global;
-
-// The logic of each step, asked for by its number.
-fn logics_of<P: Plan>(plan: &P, heap: Global) -> Result<Vec<Logic>, NoMemory>
-    ensures { IfOk result (λ v. v.items ≡ (P.Plan.meaning plan.now).logics) }
-{
-    let mut logics = Vec::new(heap);
-    let mut s: u16 = 0;
-    loop {
-        let Some(logic) = plan.logic(StepNo(s)) else {
-            break;
-        };
-        logics.push(logic)?;
-        s += 1;
-    }
-    Ok(logics)
-}
 
 impl Book {
     // The book of the smallest plan, one link from step 0 to step 1: one row, in which both steps are.
@@ -44,11 +28,9 @@ impl Book {
             exit: None,
             inside: 2,
         };
-        let classes = Vec::from_slice(heap, &[LinkNo(0)])?;
-        let homes = Vec::from_slice(heap, &[RowNo(0), RowNo(0)])?;
-        let rows = Vec::from_slice(heap, &[whole])?;
-        let runs = Vec::from_slice(heap, &[1u16])?;
-        let table = Table::new(rows, runs, heap)?;
+        let classes = vec![in heap; LinkNo(0)]?;
+        let homes = vec![in heap; RowNo(0), RowNo(0)]?;
+        let table = Table::new(&[RowRun { row: whole, run: 1 }], heap)?;
         Ok(Book {
             classes,
             homes,
@@ -65,14 +47,14 @@ impl Book {
         let order = sound_order(&graph, heap)?;
         let classes = classes(&graph, heap)?;
         let logics = logics_of(plan, heap)?;
-        let Arranged { rows, runs, homes } = arrange(
-            graph.links.as_slice(),
-            logics.as_slice(),
-            order.as_slice(),
-            classes.as_slice(),
-            heap,
-        )?;
-        let table = Table::new(rows, runs, heap)?;
+        let classed = Classed {
+            links: &graph.links,
+            logics: &logics,
+            order: &order,
+            classes: &classes,
+        };
+        let Arranged { rows, homes } = classed.arrange(heap)?;
+        let table = Table::new(&rows, heap)?;
         Ok(Book {
             classes,
             homes,

@@ -15,5 +15,5 @@ returns c =
       writes = record { short = r.0; limits = r.1; spells = r.2 };
       book = b;
       opened = o;
-      told = c.in_ok-lines.ensures ∙ ap (λ (k : ℕ). lines_of (drop k (rows_of b))) o.fresh.start;
+      told = c.in_ok-all_rows.ensures ∙ ap (λ (k : ℕ). lines_of (drop k (rows_of b))) o.fresh.start;
     }

@@ -5,7 +5,7 @@ use plan::Plan;
 use reference::Listing;
 
 // Where they differ.
-#[derive(Clone, Copy, Debug)]
+#[derive(Clone, Copy, PartialEq, Eq, Debug)]
 pub enum Difference {
     // The book did not open.
     Open,
@@ -23,74 +23,86 @@ pub enum Difference {
 
 // Opens the book over the plan and asks it for all that it tells.
 pub fn compare<P: Plan>(book: &mut Book, plan: &P, listing: &Listing) -> Result<(), Difference> {
-    if book.open(plan).is_err() {
-        return Err(Difference::Open);
-    }
+    book.open(plan).map_err(|_| Difference::Open)?;
     compare_book(book, listing)
 }
 
 // The listing is at its start, and one row on when all is well.
 pub fn compare_book(book: &mut Book, listing: &Listing) -> Result<(), Difference> {
-    compare_classes(book, listing)?;
-    compare_no_step(book, listing)?;
-    compare_rows(book, listing)?;
-    compare_end(book)?;
+    let mut pair = Pair { book, listing };
+    pair.classes()?;
+    pair.no_step()?;
+    pair.rows()?;
+    pair.end()?;
     for step in 0..listing.steps {
-        compare_home(book, listing, StepNo(step))?;
+        pair.home(StepNo(step))?;
     }
-    compare_end(book)?;
-    book.restart();
-    if book.next() != listing.rows.first().copied() {
-        return Err(Difference::Restart);
-    }
-    Ok(())
+    pair.end()?;
+    pair.restart()
 }
 
-fn compare_classes(book: &Book, listing: &Listing) -> Result<(), Difference> {
-    let mut link: u16 = 0;
-    for name in listing.classes.iter() {
-        match book.class(LinkNo(link)) {
-            Ok(class) if class == *name => {}
-            _ => return Err(Difference::Class(LinkNo(link))),
+// A book, and the listing that it should tell.
+#[derive(Drop)]
+struct Pair<'a> {
+    book: &'a mut Book,
+    listing: &'a Listing,
+}
+
+impl Pair<'_> {
+    fn classes(&self) -> Result<(), Difference> {
+        // A reference has no more links than link numbers; if it had, the class past the last number would differ.
+        let links = u16::try_from(self.listing.classes.len()).unwrap_or(u16::MAX);
+        for (link, name) in (0..links).map(LinkNo).zip(self.listing.classes.iter()) {
+            if self.book.class(link).ok() != Some(*name) {
+                return Err(Difference::Class(link));
+            }
         }
-        link = link.saturating_add(1);
-    }
-    if book.class(LinkNo(link)).is_ok() {
-        return Err(Difference::NoLink);
-    }
-    Ok(())
-}
-
-// After each row a step is asked for, and the next row has to come all the same.
-fn compare_rows(book: &mut Book, listing: &Listing) -> Result<(), Difference> {
-    for row in listing.rows.iter() {
-        if book.next() != Some(*row) {
-            return Err(Difference::Row(row.number));
+        if self.book.class(LinkNo(links)).is_ok() {
+            return Err(Difference::NoLink);
         }
-        let step = row.number.0 % listing.steps.max(1);
-        compare_home(book, listing, StepNo(step))?;
-        compare_no_step(book, listing)?;
+        Ok(())
     }
-    Ok(())
-}
 
-fn compare_end(book: &mut Book) -> Result<(), Difference> {
-    if book.next().is_some() || book.next().is_some() {
-        return Err(Difference::End);
+    // After each row a step is asked for, and the next row has to come all the same.
+    fn rows(&mut self) -> Result<(), Difference> {
+        let listing = self.listing;
+        for listed in listing.rows.iter() {
+            let row = listed.row;
+            if self.book.next() != Some(row) {
+                return Err(Difference::Row(row.number));
+            }
+            self.home(StepNo(row.number.0 % listing.steps.max(1)))?;
+            self.no_step()?;
+        }
+        Ok(())
     }
-    Ok(())
-}
 
-fn compare_home(book: &mut Book, listing: &Listing, step: StepNo) -> Result<(), Difference> {
-    match book.find(step) {
-        Ok(row) if row == listing.home(step) => Ok(()),
-        _ => Err(Difference::Find(step)),
+    fn end(&mut self) -> Result<(), Difference> {
+        if self.book.next().is_some() || self.book.next().is_some() {
+            return Err(Difference::End);
+        }
+        Ok(())
     }
-}
 
-fn compare_no_step(book: &mut Book, listing: &Listing) -> Result<(), Difference> {
-    match book.find(StepNo(listing.steps)) {
-        Ok(_) => Err(Difference::NoStep),
-        Err(_) => Ok(()),
+    fn home(&mut self, step: StepNo) -> Result<(), Difference> {
+        if self.book.find(step).ok() != Some(self.listing.home(step)) {
+            return Err(Difference::Find(step));
+        }
+        Ok(())
+    }
+
+    fn no_step(&mut self) -> Result<(), Difference> {
+        if self.book.find(StepNo(self.listing.steps)).is_ok() {
+            return Err(Difference::NoStep);
+        }
+        Ok(())
+    }
+
+    fn restart(&mut self) -> Result<(), Difference> {
+        self.book.restart();
+        if self.book.next() != self.listing.rows.first().map(|listed| listed.row) {
+            return Err(Difference::Restart);
+        }
+        Ok(())
     }
 }

@@ -1,7 +1,5 @@
 // Numbers that look random.
-ghost use Rattle.std.specs.Prelude.{◌<◌};
-
-use std::alloc::{AllocError, Global};
+ghost use Rattle.std.specs.Prelude.{◌<◌, max};
 
 // One fixed sequence, so that every run makes the same plans.
 #[derive(Drop)]
@@ -20,34 +18,31 @@ impl Dice {
     pub fn roll(&mut self, sides: u16) -> u16
         ensures { 0 < sides → result < sides }
     {
+        self.place(usize::from(sides)) as u16
+    }
+
+    // A place among so many; 0 where there is none.
+    pub fn place(&mut self, count: usize) -> usize
+        ensures { result < max 1 count }
+    {
         let mut next = self.state;
         next ^= next << 13;
         next ^= next >> 7;
         next ^= next << 17;
         self.state = next;
-        if sides == 0 {
-            return 0;
-        }
-        ((next >> 32) % u64::from(sides)) as u16
+        (next >> 32) as usize % count.max(1)
     }
 
     pub fn pick<'a, T>(&mut self, items: &'a [T]) -> Option<&'a T> {
-        let count = u16::try_from(items.len()).unwrap_or(u16::MAX);
-        items.get(usize::from(self.roll(count)))
+        items.get(self.place(items.len()))
     }
 
-    // The numbers below `count` in some order.
-    pub fn shuffled(&mut self, count: u16, heap: Global) -> Result<Vec<u16>, AllocError> {
-        let mut order = Vec::new(heap);
-        for number in 0..count {
-            order.push(number)?;
+    // Puts the items in some order.
+    pub fn shuffle<T>(&mut self, items: &mut [T]) {
+        // By number, since two places of one slice change at once.
+        for place in 0..items.len() {
+            let other = self.place(items.len());
+            items.swap(place, other);
         }
-        for place in 0..order.len() {
-            let other = usize::from(self.roll(count));
-            if place < order.len() && other < order.len() {
-                order.swap(place, other);
-            }
-        }
-        Ok(order)
     }
 }

@@ -1,4 +1,7 @@
 // Plans made by chance: links scattered among the steps, or parts put in the place of links, again and again.
+ghost use Rattle.std.specs.Prelude.{◌≡◌, ◌+◌, ◌≤◌, vec_len};
+ghost use Rattle.oracle.specs.declared.drafts.TheConstants.{MOST_STEPS};
+
 use crate::dice::Dice;
 use model::{Ends, Logic, StepNo};
 use reference::walks::{next_steps, reached};
@@ -59,36 +62,41 @@ const FORMS: [Form; 9] = [
 
 // A plan in the making, from step 0 to step 1. No link enters the one or leaves the other.
 #[derive(Drop)]
-struct Draft {
+struct Draft<'a> {
+    dice: &'a mut Dice,
     logics: Vec<Logic>,
     links: Vec<Ends>,
+    ghost few: { vec_len logics ≤ MOST_STEPS },
 }
 
-impl Draft {
-    fn new(dice: &mut Dice, steps: u16, heap: Global) -> Result<Draft, AllocError> {
+impl<'a> Draft<'a> {
+    fn new(dice: &'a mut Dice, steps: u16, heap: Global) -> Result<Draft<'a>, AllocError>
+        requires { steps ≤ MOST_STEPS }
+    {
         let mut draft = Draft {
+            dice,
             logics: Vec::new(heap),
             links: Vec::new(heap),
         };
-        draft.add_steps(dice, steps)?;
+        draft.add_steps(steps)?;
         Ok(draft)
     }
 
-    fn steps(&self) -> u16 {
-        u16::try_from(self.logics.len()).unwrap_or(MOST_STEPS)
-    }
-
-    fn link_count(&self) -> u16 {
-        u16::try_from(self.links.len()).unwrap_or(u16::MAX)
+    fn steps(&self) -> u16
+        ensures { result ≡ vec_len self.now.logics }
+    {
+        self.logics.len() as u16
     }
 
     // Steps of one logic, or of one logic each.
-    fn add_steps(&mut self, dice: &mut Dice, count: u16) -> Result<(), AllocError> {
-        let mut logic = some_logic(dice);
-        let differ = dice.roll(3) == 0;
-        for _ in 0..count {
+    fn add_steps(&mut self, count: u16) -> Result<(), AllocError>
+        requires { vec_len self.old.logics + count ≤ MOST_STEPS }
+    {
+        let mut logic = some_logic(self.dice);
+        let differ = self.dice.roll(3) == 0;
+        for _step in 0..count {
             if differ {
-                logic = some_logic(dice);
+                logic = some_logic(self.dice);
             }
             self.logics.push(logic)?;
         }
@@ -101,21 +109,31 @@ impl Draft {
     }
 
     // A link between any two steps.
-    fn scatter(&mut self, dice: &mut Dice) -> Result<(), AllocError> {
-        let tail = dice.roll(self.steps());
-        let head = dice.roll(self.steps());
-        if tail != LAST.0 && head != FIRST.0 {
-            self.add_link(StepNo(tail), StepNo(head))?;
+    fn scatter(&mut self) -> Result<(), AllocError> {
+        let steps = self.steps();
+        let tail = StepNo(self.dice.roll(steps));
+        let head = StepNo(self.dice.roll(steps));
+        if tail != LAST && head != FIRST {
+            self.add_link(tail, head)?;
+        }
+        Ok(())
+    }
+
+    // As many times as there are steps, or up to twice as many.
+    fn scatter_links(&mut self) -> Result<(), AllocError> {
+        let steps = self.steps();
+        for _ in 0..steps + self.dice.roll(steps) {
+            self.scatter()?;
         }
         Ok(())
     }
 
     // Another link beside a link, or one with equal ends.
-    fn double(&mut self, dice: &mut Dice) -> Result<(), AllocError> {
-        let Some(ends) = dice.pick(&self.links).copied() else {
+    fn double(&mut self) -> Result<(), AllocError> {
+        let Some(ends) = self.dice.pick(&self.links).copied() else {
             return Ok(());
         };
-        if ends.head.0 != LAST.0 && dice.roll(2) == 0 {
+        if ends.head != LAST && self.dice.roll(2) == 0 {
             self.add_link(ends.head, ends.head)
         } else {
             self.add_link(ends.tail, ends.head)
@@ -123,19 +141,19 @@ impl Draft {
     }
 
     // Puts the form in the place of some link.
-    fn splice(&mut self, dice: &mut Dice, form: &Form) -> Result<(), AllocError> {
+    fn splice(&mut self, form: &Form) -> Result<(), AllocError> {
         let begin = self.steps();
-        let end = begin.saturating_add(form.steps.saturating_sub(1));
-        if end >= MOST_STEPS {
+        if form.steps > MOST_STEPS - begin {
             return Ok(());
         }
-        let at = usize::from(dice.roll(self.link_count()));
+        let end = begin + form.steps.saturating_sub(1);
+        let at = self.dice.place(self.links.len());
         let Some(ends) = self.links.get_mut(at) else {
             return Ok(());
         };
         let after = ends.head;
         ends.head = StepNo(begin);
-        self.add_steps(dice, form.steps)?;
+        self.add_steps(form.steps)?;
         for (tail, head) in form.links {
             self.add_link(
                 StepNo(begin.saturating_add(*tail)),
@@ -146,90 +164,70 @@ impl Draft {
     }
 
     // Fewer changes than `most`.
-    fn grow(&mut self, dice: &mut Dice, most: u16) -> Result<(), AllocError> {
-        for _ in 0..dice.roll(most) {
-            match dice.roll(16) {
-                0 => self.scatter(dice)?,
-                1 => self.double(dice)?,
-                _ => self.splice_some(dice)?,
+    fn grow(&mut self, most: u16) -> Result<(), AllocError> {
+        for _ in 0..self.dice.roll(most) {
+            // The roll is the choice: a table of closures would be asked by the same number.
+            match self.dice.roll(16) {
+                0 => self.scatter()?,
+                1 => self.double()?,
+                _ => self.splice_some()?,
             }
         }
         Ok(())
     }
 
-    fn splice_some(&mut self, dice: &mut Dice) -> Result<(), AllocError> {
-        match dice.pick(&FORMS) {
-            Some(form) => self.splice(dice, form),
+    fn splice_some(&mut self) -> Result<(), AllocError> {
+        match self.dice.pick(&FORMS) {
+            Some(form) => self.splice(form),
             None => Ok(()),
         }
     }
 
     // The steps on walks from first to last.
     fn on_walks(&self, heap: Global) -> Result<StepSet, AllocError> {
-        let mut turned = Vec::new(heap);
-        for ends in self.links.iter() {
-            turned.push(Ends {
-                tail: ends.head,
-                head: ends.tail,
-            })?;
-        }
+        let turned: Vec<Ends> = self.links.iter().map(|ends| ends.turned()).collect(heap)?;
         let after = next_steps(self.steps(), &self.links, None, heap)?;
         let before = next_steps(self.steps(), &turned, None, heap)?;
-        Ok(reached(&after, FIRST).and(reached(&before, LAST)))
+        Ok(reached(&after, FIRST) & reached(&before, LAST))
     }
 
     // The steps on walks from first to last and the links between them, numbered by chance.
-    fn sketch(&self, dice: &mut Dice, heap: Global) -> Result<Option<Sketch>, AllocError> {
+    fn sketch(&mut self, heap: Global) -> Result<Option<Sketch>, AllocError> {
         let kept = self.on_walks(heap)?;
-        let mut numbers = vec![in heap; None; self.logics.len()]?;
-        let mut logics = Vec::new(heap);
-        let mut next: u16 = 0;
-        for step in dice.shuffled(self.steps(), heap)?.iter() {
-            let Some(logic) = self.logics.get(usize::from(*step)).copied() else {
-                continue;
-            };
-            if let Some(number) = numbers.get_mut(usize::from(*step)) {
-                if kept.has(StepNo(*step)) {
-                    *number = Some(StepNo(next));
-                    logics.push(logic)?;
-                    next = next.saturating_add(1);
-                }
-            }
-        }
-        let links = self.links_by(&numbers, dice, heap)?;
-        let (Some(first), Some(last)) = (number_of(&numbers, FIRST), number_of(&numbers, LAST))
-        else {
+        let mut order: Vec<StepNo> = (0..self.steps()).map(StepNo).collect(heap)?;
+        self.dice.shuffle(&mut order);
+        order.retain(|step| kept.has(*step));
+        let logics = order
+            .iter()
+            .filter_map(|step| self.logics.get(usize::from(step.0)).copied())
+            .collect(heap)?;
+        let links = self.links_by(&order, heap)?;
+        let (Some(first), Some(last)) = (number_in(&order, FIRST), number_in(&order, LAST)) else {
             return Ok(None);
         };
         Ok(Sketch::new(links, logics, first, last))
     }
 
-    // The links, by chance in a new order, between the steps that have a number.
-    fn links_by(
-        &self,
-        numbers: &[Option<StepNo>],
-        dice: &mut Dice,
-        heap: Global,
-    ) -> Result<Vec<Ends>, AllocError> {
-        let mut links = Vec::new(heap);
-        for at in dice.shuffled(self.link_count(), heap)?.iter() {
-            let Some(ends) = self.links.get(usize::from(*at)).copied() else {
-                continue;
-            };
-            let (Some(tail), Some(head)) = (
-                number_of(numbers, ends.tail),
-                number_of(numbers, ends.head),
-            ) else {
-                continue;
-            };
-            links.push(Ends { tail, head })?;
-        }
-        Ok(links)
+    // The links, by chance in a new order, between the steps of this order, which are numbered by it.
+    fn links_by(&mut self, order: &[StepNo], heap: Global) -> Result<Vec<Ends>, AllocError> {
+        let mut links = Vec::from_slice(heap, &self.links)?;
+        self.dice.shuffle(&mut links);
+        links
+            .iter()
+            .filter_map(|ends| {
+                Some(Ends {
+                    tail: number_in(order, ends.tail)?,
+                    head: number_in(order, ends.head)?,
+                })
+            })
+            .collect(heap)
     }
 }
 
-fn number_of(numbers: &[Option<StepNo>], step: StepNo) -> Option<StepNo> {
-    numbers.get(usize::from(step.0)).copied()?
+// The place of the step in the order, its new number.
+fn number_in(order: &[StepNo], step: StepNo) -> Option<StepNo> {
+    let place = order.iter().position(|other| *other == step)?;
+    u16::try_from(place).ok().map(StepNo)
 }
 
 fn some_logic(dice: &mut Dice) -> Logic {
@@ -253,21 +251,19 @@ pub fn one_link(heap: Global) -> Result<Option<Sketch>, AllocError> {
 
 // A plan of links between any two steps, in every second one parts in the place of some.
 pub fn scattered(dice: &mut Dice, heap: Global) -> Result<Option<Sketch>, AllocError> {
-    let steps = dice.roll(MOST_STEPS - 1).saturating_add(2);
+    let steps = dice.roll(MOST_STEPS - 1) + 2;
     let mut draft = Draft::new(dice, steps, heap)?;
-    for _ in 0..steps.saturating_add(dice.roll(steps)) {
-        draft.scatter(dice)?;
+    draft.scatter_links()?;
+    if draft.dice.roll(2) == 0 {
+        draft.grow(12)?;
     }
-    if dice.roll(2) == 0 {
-        draft.grow(dice, 12)?;
-    }
-    draft.sketch(dice, heap)
+    draft.sketch(heap)
 }
 
 // A plan grown from one link.
 pub fn nested(dice: &mut Dice, heap: Global) -> Result<Option<Sketch>, AllocError> {
     let mut draft = Draft::new(dice, 2, heap)?;
     draft.add_link(FIRST, LAST)?;
-    draft.grow(dice, 24)?;
-    draft.sketch(dice, heap)
+    draft.grow(24)?;
+    draft.sketch(heap)
 }

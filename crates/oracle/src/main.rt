@@ -17,121 +17,112 @@ use reference::{Listing, Sketch};
 use std::alloc::{AllocError, Global};
 use std::io;
 use tally::Tally;
+use thiserror::Error;
 use writing::written;
 
-const TURNS: u32 = 5_000;
+// A plan grown from one link and a scattered one a round.
+const ROUNDS: u32 = 2_500;
 
 const FEWEST_PLANS: u32 = 3_000;
 
 const FEWEST_ROWS: u32 = 50;
 
-#[derive(Debug, Drop)]
+#[derive(Debug, Drop, Error)]
 enum Trouble {
-    Memory,
-    Print(io::Error),
-    // A new book does not open.
+    #[error("out of memory")]
+    Memory(#[from(alloc)] AllocError),
+    #[error(transparent)]
+    Print(#[from] io::Error),
+    #[error("a new book does not open")]
     Book,
-    // The plan made by chance is not sound.
+    #[error("the plan made by chance is not sound")]
     Unsound,
-    // The table does not take the plan's text.
+    #[error("the table does not take the plan's text")]
     Text,
-    Differs(Difference),
+    #[error("the book of the plan differs: {0:?}")]
+    Differs(#[from] Difference),
+    #[error("the book of the turned plan differs: {0:?}")]
     DiffersTurned(Difference),
+    #[error("fewer than {min} plans were compared", min = FEWEST_PLANS)]
     FewPlans,
+    #[error("fewer than {min} rows are {0}", min = FEWEST_ROWS)]
     FewRows(Kind),
 }
 
-impl From<AllocError> for Trouble {
-    fn from(_error: AllocError) -> Trouble {
-        Trouble::Memory
-    }
+// A book, and what it was compared on.
+#[derive(Drop)]
+struct Trial {
+    book: Book,
+    tally: Tally,
 }
 
-impl From<io::Error> for Trouble {
-    fn from(error: io::Error) -> Trouble {
-        Trouble::Print(error)
-    }
-}
-
-impl From<Difference> for Trouble {
-    fn from(difference: Difference) -> Trouble {
-        Trouble::Differs(difference)
-    }
-}
-
-// The plan and the plan turned, each read, opened and asked for all that the book tells.
-fn compare_plan(
-    book: &mut Book,
-    tally: &mut Tally,
-    sketch: &Sketch,
-    text: &str,
-    heap: Global,
-) -> Result<(), Trouble> {
-    if !sketch.sound(heap)? {
-        return Err(Trouble::Unsound);
-    }
-    let mut table = GatewayTable::new(heap)?;
-    if table.read(text.as_bytes()).is_err() {
-        return Err(Trouble::Text);
-    }
-    let listing = Listing::new(sketch, heap)?;
-    compare(book, &table, &listing)?;
-    let back = Listing::new(&sketch.turned(heap)?, heap)?;
-    if let Err(difference) = compare(book, &Turned::new(table), &back) {
-        return Err(Trouble::DiffersTurned(difference));
-    }
-    tally.add_plan(sketch);
-    tally.add_rows(&listing.rows);
-    tally.add_rows(&back.rows);
-    Ok(())
-}
-
-// A new book is that of the plan of one link.
-fn new_book(heap: Global) -> Result<Book, Trouble> {
-    let Ok(mut book) = Book::new(heap) else {
-        return Err(Trouble::Book);
-    };
-    if let Some(sketch) = one_link(heap)? {
-        compare_book(&mut book, &Listing::new(&sketch, heap)?)?;
-    }
-    Ok(book)
-}
-
-fn compare_all(rt: &HostRuntime) -> Result<Tally, Trouble> {
-    let heap = rt.alloc();
-    let mut book = new_book(heap)?;
-    let mut dice = Dice::new();
-    let mut tally = Tally::new();
-    for turn in 0..TURNS {
-        let made = if turn % 2 == 0 {
-            nested(&mut dice, heap)?
-        } else {
-            scattered(&mut dice, heap)?
-        };
-        let Some(sketch) = made else {
-            continue;
-        };
-        let text = written(&sketch, heap)?;
-        if let Err(trouble) = compare_plan(&mut book, &mut tally, &sketch, text.as_str(), heap) {
-            eprintln!(rt; "{text}")?;
-            return Err(trouble);
+impl Trial {
+    // A new book is that of the plan of one link.
+    fn new(heap: Global) -> Result<Trial, Trouble> {
+        let mut book = Book::new(heap).map_err(|_| Trouble::Book)?;
+        if let Some(sketch) = one_link(heap)? {
+            compare_book(&mut book, &Listing::new(&sketch, heap)?)?;
         }
+        Ok(Trial {
+            book,
+            tally: Tally::new(),
+        })
     }
-    Ok(tally)
+
+    // The plan and the plan turned, each read, opened and asked for all that the book tells.
+    fn compare(&mut self, sketch: &Sketch, text: &str, heap: Global) -> Result<(), Trouble> {
+        if !sketch.sound(heap)? {
+            return Err(Trouble::Unsound);
+        }
+        let mut table = GatewayTable::new(heap)?;
+        table.read(text.as_bytes()).map_err(|_| Trouble::Text)?;
+        let listing = Listing::new(sketch, heap)?;
+        compare(&mut self.book, &table, &listing)?;
+        let back = Listing::new(&sketch.turned(heap)?, heap)?;
+        compare(&mut self.book, &Turned::new(table), &back).map_err(Trouble::DiffersTurned)?;
+        self.tally.add_plan(sketch);
+        self.tally.add_rows(&listing.rows);
+        self.tally.add_rows(&back.rows);
+        Ok(())
+    }
+
+    // Compares the plan, if one was made, and prints it where there is trouble.
+    fn add<R: AllocGlobal + Eprint>(
+        &mut self,
+        made: Option<Sketch>,
+        rt: &R,
+    ) -> Result<(), Trouble> {
+        let Some(sketch) = made else {
+            return Ok(());
+        };
+        let text = written(&sketch, rt.alloc())?;
+        let compared = self.compare(&sketch, text.as_str(), rt.alloc());
+        if compared.is_err() {
+            eprintln!(rt; "{text}")?;
+        }
+        compared
+    }
 }
 
-fn run(rt: &HostRuntime) -> Result<(), Trouble> {
-    let tally = compare_all(rt)?;
+fn compare_all<R: AllocGlobal + Eprint>(rt: &R) -> Result<Tally, Trouble> {
+    let heap = rt.alloc();
+    let mut trial = Trial::new(heap)?;
+    let mut dice = Dice::new();
+    for _ in 0..ROUNDS {
+        trial.add(nested(&mut dice, heap)?, rt)?;
+        trial.add(scattered(&mut dice, heap)?, rt)?;
+    }
+    Ok(trial.tally)
+}
+
+fn main(rt: HostRuntime) -> Result<(), Trouble> {
+    let tally = compare_all(&rt)?;
     if tally.plans < FEWEST_PLANS {
         return Err(Trouble::FewPlans);
     }
     if let Some(kind) = tally.rarer(FEWEST_ROWS) {
         return Err(Trouble::FewRows(kind));
     }
-    tally.print(rt)?;
+    tally.print(&rt)?;
     Ok(())
-}
-
-fn main(rt: HostRuntime) -> Result<(), Trouble> {
-    run(&rt)
 }

@@ -1,25 +1,14 @@
 // What was compared.
-use model::{Kind, Row};
-use reference::Sketch;
+use model::Kind;
+use reference::{Listed, Sketch};
 use std::io;
-
-const KINDS: [Kind; 8] = [
-    Kind::Whole,
-    Kind::Single,
-    Kind::Choice,
-    Kind::Parallel,
-    Kind::Loop,
-    Kind::MeshOne,
-    Kind::MeshAll,
-    Kind::Mixed,
-];
 
 #[derive(Drop)]
 pub struct Tally {
     pub plans: u32,
     most_steps: u16,
     most_links: u16,
-    // How many rows of each kind, by the kind's number.
+    // How many rows of each kind, by the kind's number: an array needs no memory that can be wanting, as a map would.
     kinds: [u32; 8],
 }
 
@@ -39,9 +28,9 @@ impl Tally {
         self.most_links = self.most_links.max(sketch.link_count());
     }
 
-    pub fn add_rows(&mut self, rows: &[Row]) {
-        for row in rows {
-            if let Some(count) = self.kinds.get_mut(usize::from(row.kind.number())) {
+    pub fn add_rows(&mut self, rows: &[Listed]) {
+        for listed in rows {
+            if let Some(count) = self.kinds.get_mut(usize::from(listed.row.kind.number())) {
                 *count = count.saturating_add(1);
             }
         }
@@ -56,22 +45,20 @@ impl Tally {
 
     // A kind of which fewer rows than this were seen.
     pub fn rarer(&self, least: u32) -> Option<Kind> {
-        for kind in KINDS.iter() {
-            if self.rows_of(*kind) < least {
-                return Some(*kind);
-            }
-        }
-        None
+        Kind::ALL
+            .iter()
+            .copied()
+            .find(|kind| self.rows_of(*kind) < least)
     }
 
-    pub fn print(&self, rt: &HostRuntime) -> io::Result<()> {
+    pub fn print(&self, rt: &impl Print) -> io::Result<()> {
         println!(rt; "compared {} plans, and each of them turned", self.plans)?;
         println!(rt;
             "the largest: {} steps, {} links",
             self.most_steps, self.most_links
         )?;
-        for kind in KINDS.iter() {
-            println!(rt; "{} rows {}", self.rows_of(*kind), kind.word())?;
+        for kind in Kind::ALL.iter() {
+            println!(rt; "{} rows {kind}", self.rows_of(*kind))?;
         }
         println!(rt; "none differ")
     }

@@ -4,7 +4,7 @@ use crate::walks::Walks;
 use model::{LinkNo, StepNo};
 use std::alloc::{AllocError, Global};
 
-#[derive(Clone, Copy)]
+#[derive(Clone, Copy, PartialEq, Eq, Debug)]
 pub struct Fragment {
     pub entry: LinkNo,
     pub exit: LinkNo,
@@ -16,65 +16,44 @@ pub struct Fragment {
 
 // The canonical fragments by rising entry.
 pub fn fragments(walks: &Walks, heap: Global) -> Result<Vec<Fragment>, AllocError> {
-    let mut found = Vec::new(heap);
-    for entry in 0..walks.sketch.link_count() {
-        add_fragments_at(walks, LinkNo(entry), &mut found)?;
-    }
-    Ok(found)
+    let links = walks.sketch.link_count();
+    (0..links)
+        .flat_map(|entry| {
+            (0..links).filter_map(move |exit| enclosed(walks, LinkNo(entry), LinkNo(exit)))
+        })
+        .collect(heap)
 }
 
-fn add_fragments_at(
-    walks: &Walks,
-    entry: LinkNo,
-    found: &mut Vec<Fragment>,
-) -> Result<(), AllocError> {
-    for number in 0..walks.sketch.link_count() {
-        let exit = LinkNo(number);
-        if !walks.canonical(entry, exit) {
-            continue;
-        }
-        let Some(before) = walks.sketch.ends(entry) else {
-            continue;
-        };
-        let Some(after) = walks.sketch.ends(exit) else {
-            continue;
-        };
-        found.push(Fragment {
-            entry,
-            exit,
-            begin: before.head,
-            end: after.tail,
-            inside: walks.inside(entry, exit),
-        })?;
+// What the two links enclose, if that is a canonical fragment.
+fn enclosed(walks: &Walks, entry: LinkNo, exit: LinkNo) -> Option<Fragment> {
+    if !walks.canonical(entry, exit) {
+        return None;
     }
-    Ok(())
+    Some(Fragment {
+        entry,
+        exit,
+        begin: walks.sketch.ends(entry)?.head,
+        end: walks.sketch.ends(exit)?.tail,
+        inside: walks.inside(entry, exit),
+    })
 }
 
 // The steps inside the fragment and inside no fragment of fewer steps.
 pub fn own_steps(fragments: &[Fragment], fragment: Fragment) -> StepSet {
-    let mut own = fragment.inside;
-    for other in fragments {
-        if other.inside.count() < fragment.inside.count() {
-            own = own.minus(other.inside);
-        }
-    }
-    own
+    fragments
+        .iter()
+        .map(|other| other.inside)
+        .filter(|inside| inside.count() < fragment.inside.count())
+        .fold(fragment.inside, |own, inside| own - inside)
 }
 
 // The place of the smallest other fragment that contains all steps of the one at this place.
 pub fn parent(fragments: &[Fragment], place: usize) -> Option<usize> {
-    let child = fragments.get(place).copied()?;
-    let mut best: Option<(usize, u16)> = None;
-    for (other, fragment) in fragments.iter().enumerate() {
-        if other == place || !fragment.inside.holds(child.inside) {
-            continue;
-        }
-        let count = fragment.inside.count();
-        match best {
-            Some((_, least)) if least <= count => {}
-            _ => best = Some((other, count)),
-        }
-    }
-    let (found, _) = best?;
+    let child = fragments.get(place)?;
+    let (found, _) = fragments
+        .iter()
+        .enumerate()
+        .filter(|(other, fragment)| *other != place && fragment.inside.holds(child.inside))
+        .min_by_key(|(_, fragment)| fragment.inside.count())?;
     Some(found)
 }

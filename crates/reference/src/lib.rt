@@ -8,7 +8,7 @@ pub mod sketch;
 pub mod walks;
 
 pub use fragments::Fragment;
-pub use listing::Listing;
+pub use listing::{Listed, Listing};
 pub use sets::StepSet;
 pub use sketch::Sketch;
 pub use walks::Walks;

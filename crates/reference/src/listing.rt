@@ -7,7 +7,7 @@ use model::{Kind, LinkNo, Logic, Row, RowNo, StepNo};
 use std::alloc::{AllocError, Global};
 
 // What the kinds ask of the steps of a plan.
-#[derive(Clone, Copy)]
+#[derive(Clone, Copy, PartialEq, Eq, Debug)]
 struct Marks {
     ones: StepSet,
     alls: StepSet,
@@ -24,15 +24,15 @@ impl Marks {
         Ok(Marks {
             ones: sketch.of_logic(Logic::One),
             alls: sketch.of_logic(Logic::All),
-            branch: joins.or(forks),
-            open: sketch.entered(1).minus(joins).and(forks),
-            close: back.entered(1).minus(forks).and(joins),
+            branch: joins | forks,
+            open: (sketch.entered(1) - joins) & forks,
+            close: (back.entered(1) - forks) & joins,
         })
     }
 
     // The first kind of the table that fits.
-    fn kind(self, fragment: Fragment, own: StepSet) -> Kind {
-        let branching = own.and(self.branch);
+    fn kind(&self, fragment: Fragment, own: StepSet) -> Kind {
+        let branching = own & self.branch;
         let two = own.count() == 2;
         let opens = self.open.has(fragment.begin) && self.close.has(fragment.end);
         let closes = self.close.has(fragment.begin) && self.open.has(fragment.end);
@@ -56,18 +56,36 @@ impl Marks {
     }
 }
 
+// A fragment and the place of its parent, none where that is the whole plan.
+#[derive(Clone, Copy, PartialEq, Eq, Debug)]
+struct Nested {
+    fragment: Fragment,
+    parent: Option<usize>,
+}
+
+fn with_parents(fragments: &[Fragment], heap: Global) -> Result<Vec<Nested>, AllocError> {
+    fragments
+        .iter()
+        .enumerate()
+        .map(|(place, fragment)| Nested {
+            fragment: *fragment,
+            parent: parent(fragments, place),
+        })
+        .collect(heap)
+}
+
 // The places of the fragments, each followed by those below it, by rising entry under one parent.
-fn depth_first(parents: &[Option<usize>], heap: Global) -> Result<Vec<usize>, AllocError> {
+fn depth_first(all: &[Nested], heap: Global) -> Result<Vec<usize>, AllocError> {
     let mut order = Vec::new(heap);
     let mut stack = Vec::new(heap);
-    push_children(&mut stack, parents, None)?;
-    // Each fragment has one parent, so it is put on the stack at most once.
-    for _ in parents {
+    push_children(&mut stack, all, None)?;
+    // Each fragment has one parent, so it is put on the stack at most once: a `for` over the fragments is as plain as a `while let`, and says how many turns there are.
+    for _ in all {
         let Some(place) = stack.pop() else {
             break;
         };
         order.push(place)?;
-        push_children(&mut stack, parents, Some(place))?;
+        push_children(&mut stack, all, Some(place))?;
     }
     Ok(order)
 }
@@ -75,113 +93,103 @@ fn depth_first(parents: &[Option<usize>], heap: Global) -> Result<Vec<usize>, Al
 // The first child comes to lie on top.
 fn push_children(
     stack: &mut Vec<usize>,
-    parents: &[Option<usize>],
+    all: &[Nested],
     of: Option<usize>,
 ) -> Result<(), AllocError> {
-    for place in (0..parents.len()).rev() {
-        if parents.get(place).copied() == Some(of) {
-            stack.push(place)?;
-        }
-    }
-    Ok(())
+    stack.extend(
+        all.iter()
+            .enumerate()
+            .rev()
+            .filter(|(_, below)| below.parent == of)
+            .map(|(place, _)| place),
+    )
 }
 
-fn parents(fragments: &[Fragment], heap: Global) -> Result<Vec<Option<usize>>, AllocError> {
-    let mut list = Vec::new(heap);
-    for place in 0..fragments.len() {
-        list.push(parent(fragments, place))?;
-    }
-    Ok(list)
-}
-
-// The number of the row at this place of the order; row 0 stands before them all.
-fn row_number(place: usize) -> RowNo {
-    RowNo(u16::try_from(place).unwrap_or(u16::MAX).saturating_add(1))
-}
-
-// The row of the fragment, or row 0 of none.
+// The row of the fragment, or row 0 of none: the rows are numbered in this order, after row 0.
 fn row_of(order: &[usize], fragment: Option<usize>) -> RowNo {
-    for (place, other) in order.iter().enumerate() {
-        if Some(*other) == fragment {
-            return row_number(place);
-        }
-    }
-    RowNo(0)
+    (1..)
+        .map(RowNo)
+        .zip(order)
+        .find(|(_, place)| Some(**place) == fragment)
+        .map_or(RowNo(0), |(number, _)| number)
+}
+
+// A row, and the steps inside it.
+#[derive(Clone, Copy, PartialEq, Eq, Debug)]
+pub struct Listed {
+    pub row: Row,
+    pub inside: StepSet,
 }
 
 #[derive(Drop)]
 pub struct Listing {
     pub steps: u16,
     pub classes: Vec<LinkNo>,
-    pub rows: Vec<Row>,
-    insides: Vec<StepSet>,
+    pub rows: Vec<Listed>,
 }
 
 impl Listing {
     pub fn new(sketch: &Sketch, heap: Global) -> Result<Listing, AllocError> {
         let walks = Walks::new(sketch, heap)?;
         let all = fragments(&walks, heap)?;
-        let above = parents(&all, heap)?;
-        let order = depth_first(&above, heap)?;
+        let nested = with_parents(&all, heap)?;
+        let order = depth_first(&nested, heap)?;
         let marks = Marks::new(sketch, heap)?;
-        let mut listing = Listing::of_whole(sketch, heap)?;
-        for (place, chosen) in order.iter().enumerate() {
-            let Some(fragment) = all.get(*chosen).copied() else {
+        let mut rows = vec![in heap; whole(sketch)]?;
+        for (number, place) in (1..).map(RowNo).zip(&order) {
+            let Some(Nested { fragment, parent }) = nested.get(*place).copied() else {
                 continue;
             };
-            let Some(over) = above.get(*chosen).copied() else {
-                continue;
-            };
-            listing.rows.push(Row {
-                number: row_number(place),
-                parent: Some(row_of(&order, over)),
+            let row = Row {
+                number,
+                parent: Some(row_of(&order, parent)),
                 kind: marks.kind(fragment, own_steps(&all, fragment)),
                 entry: Some(fragment.entry),
                 exit: Some(fragment.exit),
                 inside: fragment.inside.count(),
+            };
+            rows.push(Listed {
+                row,
+                inside: fragment.inside,
             })?;
-            listing.insides.push(fragment.inside)?;
         }
-        listing.classes = classes(&walks, heap)?;
-        Ok(listing)
-    }
-
-    // Row 0 alone.
-    fn of_whole(sketch: &Sketch, heap: Global) -> Result<Listing, AllocError> {
-        let whole = Row {
-            number: RowNo(0),
-            parent: None,
-            kind: Kind::Whole,
-            entry: None,
-            exit: None,
-            inside: sketch.steps,
-        };
         Ok(Listing {
             steps: sketch.steps,
-            classes: Vec::new(heap),
-            rows: vec![in heap; whole]?,
-            insides: vec![in heap; StepSet::below(sketch.steps)]?,
+            classes: classes(&walks, heap)?,
+            rows,
         })
     }
 
     // The row of fewest steps that the step is inside.
     pub fn home(&self, step: StepNo) -> RowNo {
-        let mut best = RowNo(0);
-        let mut least = StepSet::LIMIT;
-        for (row, inside) in self.rows.iter().zip(self.insides.iter()) {
-            if inside.has(step) && inside.count() <= least {
-                best = row.number;
-                least = inside.count();
-            }
-        }
-        best
+        // Of two rows with the same steps the one further down is the innermost.
+        self.rows
+            .iter()
+            .rev()
+            .filter(|listed| listed.inside.has(step))
+            .min_by_key(|listed| listed.inside.count())
+            .map_or(RowNo(0), |listed| listed.row.number)
+    }
+}
+
+// Row 0.
+fn whole(sketch: &Sketch) -> Listed {
+    let row = Row {
+        number: RowNo(0),
+        parent: None,
+        kind: Kind::Whole,
+        entry: None,
+        exit: None,
+        inside: sketch.steps,
+    };
+    Listed {
+        row,
+        inside: StepSet::below(sketch.steps),
     }
 }
 
 fn classes(walks: &Walks, heap: Global) -> Result<Vec<LinkNo>, AllocError> {
-    let mut names = Vec::new(heap);
-    for link in 0..walks.sketch.link_count() {
-        names.push(walks.class(LinkNo(link)))?;
-    }
-    Ok(names)
+    (0..walks.sketch.link_count())
+        .map(|link| walks.class(LinkNo(link)))
+        .collect(heap)
 }

@@ -6,6 +6,7 @@ use std::alloc::{AllocError, Global};
 
 #[derive(Drop)]
 pub struct Sketch {
+    // As many as logics, in the numbers that steps have.
     pub steps: u16,
     pub links: Vec<Ends>,
     pub logics: Vec<Logic>,
@@ -22,16 +23,14 @@ impl Sketch {
         last: StepNo,
     ) -> Option<Sketch> {
         let steps = u16::try_from(logics.len()).ok()?;
-        let ended = first.0 < steps && last.0 < steps && first.0 != last.0;
-        if steps > StepSet::LIMIT || !ended {
+        let is_step = |step: StepNo| step.0 < steps;
+        if steps > StepSet::LIMIT || first == last || !is_step(first) || !is_step(last) {
             return None;
         }
-        for ends in links.iter() {
-            if ends.tail.0 >= steps || ends.head.0 >= steps {
-                return None;
-            }
-        }
-        Some(Sketch {
+        let ended = links
+            .iter()
+            .all(|ends| is_step(ends.tail) && is_step(ends.head));
+        ended.then_some(Sketch {
             steps,
             links,
             logics,
@@ -44,22 +43,16 @@ impl Sketch {
         self.links.get(usize::from(link.0)).copied()
     }
 
+    // The count ends at the highest that is told: a list with more links has no make of plan, and a refusal would ask every caller for a case that none has.
     pub fn link_count(&self) -> u16 {
         u16::try_from(self.links.len()).unwrap_or(u16::MAX)
     }
 
-    // Every link runs the other way, first and last change places.
+    // Every link runs the other way, first and last change places. Apart from what the search turns: the reference shares no code with it.
     pub fn turned(&self, heap: Global) -> Result<Sketch, AllocError> {
-        let mut links = Vec::new(heap);
-        for ends in self.links.iter() {
-            links.push(Ends {
-                tail: ends.head,
-                head: ends.tail,
-            })?;
-        }
         Ok(Sketch {
             steps: self.steps,
-            links,
+            links: self.links.iter().map(|ends| ends.turned()).collect(heap)?,
             logics: Vec::from_slice(heap, &self.logics)?,
             first: self.last,
             last: self.first,
@@ -91,33 +84,17 @@ impl Sketch {
 
     // The steps that this many links or more enter.
     pub fn entered(&self, by: u16) -> StepSet {
-        let mut set = StepSet::none();
-        for step in 0..self.steps {
-            if self.links_into(StepNo(step)) >= by {
-                set = set.with(StepNo(step));
-            }
-        }
-        set
+        StepSet::of(self.steps, |step| self.links_into(step) >= usize::from(by))
     }
 
-    fn links_into(&self, step: StepNo) -> u16 {
-        let mut count: u16 = 0;
-        for ends in self.links.iter() {
-            if ends.head.0 == step.0 {
-                count = count.saturating_add(1);
-            }
-        }
-        count
+    fn links_into(&self, step: StepNo) -> usize {
+        self.links.iter().filter(|ends| ends.head == step).count()
     }
 
     // The steps of this logic.
     pub fn of_logic(&self, logic: Logic) -> StepSet {
-        let mut set = StepSet::none();
-        for step in 0..self.steps {
-            if self.logics.get(usize::from(step)).copied() == Some(logic) {
-                set = set.with(StepNo(step));
-            }
-        }
-        set
+        StepSet::of(self.steps, |step| {
+            self.logics.get(usize::from(step.0)).copied() == Some(logic)
+        })
     }
 }

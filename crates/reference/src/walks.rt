@@ -12,19 +12,21 @@ pub struct Cuts {
 
 impl Cuts {
     pub fn new(steps: u16, links: &[Ends], heap: Global) -> Result<Cuts, AllocError> {
-        let mut without = Vec::new(heap);
-        for cut in 0..links.len() {
-            let nexts = next_steps(steps, links, Some(cut), heap)?;
-            without.push(reached_from_each(steps, &nexts, heap)?)?;
-        }
+        let without = (0..links.len())
+            .map(|cut| -> Result<Vec<StepSet>, AllocError> {
+                let nexts = next_steps(steps, links, Some(cut), heap)?;
+                (0..steps)
+                    .map(|step| reached(&nexts, StepNo(step)))
+                    .collect(heap)
+            })
+            .try_collect(heap)?;
         Ok(Cuts { without })
     }
 
     pub fn reach(&self, cut: LinkNo, from: StepNo) -> StepSet {
-        let Some(rows) = self.without.get(usize::from(cut.0)) else {
-            return StepSet::none();
-        };
-        rows.get(usize::from(from.0))
+        self.without
+            .get(usize::from(cut.0))
+            .and_then(|row| row.get(usize::from(from.0)))
             .copied()
             .unwrap_or(StepSet::none())
     }
@@ -39,32 +41,20 @@ pub fn next_steps(
 ) -> Result<Vec<StepSet>, AllocError> {
     let mut nexts = vec![in heap; StepSet::none(); usize::from(steps)]?;
     for (number, ends) in links.iter().enumerate() {
-        if cut != Some(number) {
-            if let Some(set) = nexts.get_mut(usize::from(ends.tail.0)) {
-                *set = set.with(ends.head);
-            }
+        if cut != Some(number)
+            && let Some(set) = nexts.get_mut(usize::from(ends.tail.0))
+        {
+            *set = set.with(ends.head);
         }
     }
     Ok(nexts)
-}
-
-fn reached_from_each(
-    steps: u16,
-    nexts: &[StepSet],
-    heap: Global,
-) -> Result<Vec<StepSet>, AllocError> {
-    let mut rows = Vec::new(heap);
-    for step in 0..steps {
-        rows.push(reached(nexts, StepNo(step)))?;
-    }
-    Ok(rows)
 }
 
 // The steps that walks from the step reach, itself among them.
 pub fn reached(nexts: &[StepSet], from: StepNo) -> StepSet {
     let mut seen = StepSet::only(from);
     let mut work = seen;
-    // A step is put on the work list once, when it is first seen: there are no more turns than steps.
+    // A step is put on the work list once, when it is first seen: a `for` over the steps is as plain as a `while let`, and says how many turns there are.
     for _ in nexts {
         let Some(step) = work.lowest() else {
             break;
@@ -73,9 +63,9 @@ pub fn reached(nexts: &[StepSet], from: StepNo) -> StepSet {
             .get(usize::from(step.0))
             .copied()
             .unwrap_or(StepSet::none());
-        let found = next.minus(seen);
-        seen = seen.or(found);
-        work = work.minus(StepSet::only(step)).or(found);
+        let found = next - seen;
+        seen = seen | found;
+        work = (work - StepSet::only(step)) | found;
     }
     seen
 }
@@ -100,10 +90,8 @@ impl<'a> Walks<'a> {
 
     // Whether every closed walk that passes a passes b.
     fn binds(&self, a: LinkNo, b: LinkNo) -> bool {
-        let Some(ends) = self.sketch.ends(a) else {
-            return false;
-        };
-        a == b || !self.closed.reach(b, ends.head).has(ends.tail)
+        self.sketch.ends(a).is_some_and(|ends| a == b
+            || !self.closed.reach(b, ends.head).has(ends.tail))
     }
 
     pub fn shares(&self, a: LinkNo, b: LinkNo) -> bool {
@@ -112,31 +100,23 @@ impl<'a> Walks<'a> {
 
     // Whether a is another link than b, and every walk from the first step that passes b passes a.
     pub fn leads(&self, a: LinkNo, b: LinkNo) -> bool {
-        let Some(ends) = self.sketch.ends(b) else {
-            return false;
-        };
-        a != b && !self.plan.reach(a, self.sketch.first).has(ends.tail)
+        self.sketch.ends(b).is_some_and(|ends| a != b
+            && !self.plan.reach(a, self.sketch.first).has(ends.tail))
     }
 
     // The smallest link that shares a class with the link.
     pub fn class(&self, link: LinkNo) -> LinkNo {
-        for other in 0..link.0 {
-            if self.shares(LinkNo(other), link) {
-                return LinkNo(other);
-            }
-        }
-        link
+        (0..link.0)
+            .map(LinkNo)
+            .find(|other| self.shares(*other, link))
+            .unwrap_or(link)
     }
 
     // Whether some third link of the class is led by a and leads b.
     fn parted(&self, a: LinkNo, b: LinkNo) -> bool {
-        for other in 0..self.sketch.link_count() {
-            let third = LinkNo(other);
-            if self.shares(a, third) && self.leads(a, third) && self.leads(third, b) {
-                return true;
-            }
-        }
-        false
+        (0..self.sketch.link_count()).map(LinkNo).any(|third| {
+            self.shares(a, third) && self.leads(a, third) && self.leads(third, b)
+        })
     }
 
     pub fn canonical(&self, a: LinkNo, b: LinkNo) -> bool {
@@ -145,9 +125,8 @@ impl<'a> Walks<'a> {
 
     // The steps that walks from the head of a reach without passing b.
     pub fn inside(&self, a: LinkNo, b: LinkNo) -> StepSet {
-        match self.sketch.ends(a) {
-            Some(ends) => self.plan.reach(b, ends.head),
-            None => StepSet::none(),
-        }
+        self.sketch
+            .ends(a)
+            .map_or(StepSet::none(), |ends| self.plan.reach(b, ends.head))
     }
 }

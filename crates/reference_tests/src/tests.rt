@@ -4,7 +4,7 @@ use std::alloc::{AllocError, Global};
 use std::process::Abort;
 use std::test::Fail;
 
-// A plan by its links as tail and head, with its classes and the rows after row 0.
+// A plan by its links as tail and head, with its classes and the rows after row 0. The plans stand in `samples` too: the two crates test two programs that are to share nothing.
 // The first step is 0 and the last the highest; the logic of each step is `one` but of those named.
 struct Sample {
     links: &'static [(u16, u16)],
@@ -15,7 +15,8 @@ struct Sample {
     rows: &'static [Shown],
 }
 
-// Parent, kind, entry, exit and how many steps are inside.
+// Parent, kind, entry, exit and how many steps are inside, by place, so that a row stands on one line as in a listing.
+#[derive(Clone, Copy)]
 struct Shown(u16, Kind, u16, u16, u16);
 
 const FORK: &[(u16, u16)] = &[(0, 1), (1, 2), (2, 4), (1, 3), (3, 4), (4, 5)];
@@ -125,21 +126,23 @@ const SAMPLES: [Sample; 10] = [
 ];
 
 fn sketch_of(sample: &Sample, heap: Global) -> Result<Option<Sketch>, AllocError> {
-    let mut links = Vec::new(heap);
-    for (tail, head) in sample.links {
-        links.push(Ends {
+    let links = sample
+        .links
+        .iter()
+        .map(|(tail, head)| Ends {
             tail: StepNo(*tail),
             head: StepNo(*head),
-        })?;
-    }
-    let mut logics = Vec::new(heap);
-    for step in 0..sample.steps {
-        logics.push(if sample.all.contains(&step) {
-            Logic::All
-        } else {
-            Logic::One
-        })?;
-    }
+        })
+        .collect(heap)?;
+    let logics = (0..sample.steps)
+        .map(|step| {
+            if sample.all.contains(&step) {
+                Logic::All
+            } else {
+                Logic::One
+            }
+        })
+        .collect(heap)?;
     let last = StepNo(sample.steps.saturating_sub(1));
     let Some(sketch) = Sketch::new(links, logics, StepNo(0), last) else {
         return Ok(None);
@@ -152,30 +155,29 @@ fn sketch_of(sample: &Sample, heap: Global) -> Result<Option<Sketch>, AllocError
 }
 
 // The row of this number that the sample shows.
-fn shown_row(shown: &Shown, number: u16) -> Row {
+fn shown_row(shown: Shown, number: u16) -> Row {
+    let Shown(parent, kind, entry, exit, inside) = shown;
     Row {
         number: RowNo(number),
-        parent: Some(RowNo(shown.0)),
-        kind: shown.1,
-        entry: Some(LinkNo(shown.2)),
-        exit: Some(LinkNo(shown.3)),
-        inside: shown.4,
+        parent: Some(RowNo(parent)),
+        kind,
+        entry: Some(LinkNo(entry)),
+        exit: Some(LinkNo(exit)),
+        inside,
     }
 }
 
 fn check_rows(rt: &impl Abort, listing: &Listing, rows: &[Shown]) {
     assert_eq!(rt; listing.rows.len(), rows.len().saturating_add(1));
-    let mut number: u16 = 0;
-    for (row, shown) in listing.rows.iter().skip(1).zip(rows.iter()) {
-        number = number.saturating_add(1);
-        assert_eq!(rt; *row, shown_row(shown, number));
+    for (number, (listed, shown)) in (1..).zip(listing.rows.iter().skip(1).zip(rows)) {
+        assert_eq!(rt; listed.row, shown_row(*shown, number));
     }
 }
 
 fn check_classes(rt: &impl Abort, listing: &Listing, names: &[u16]) {
     assert_eq!(rt; listing.classes.len(), names.len());
-    for (class, name) in listing.classes.iter().zip(names.iter()) {
-        assert_eq!(rt; class.0, *name);
+    for (class, name) in listing.classes.iter().zip(names) {
+        assert_eq!(rt; *class, LinkNo(*name));
     }
 }
 

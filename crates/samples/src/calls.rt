@@ -3,7 +3,7 @@ use crate::drawing::{Drawn, book_of, lines_left, refusal_bytes, table_of, text_o
 use crate::plans::{FORK, RING};
 use book::Book;
 use lines::{refusal_line, row_line};
-use model::{Layer, LinkNo, Place, Refusal, StepNo};
+use model::{Layer, LinkNo, Place, Refusal, RowNo, StepNo};
 use std::alloc::Global;
 use std::process::Abort;
 use std::test::Fail;
@@ -18,8 +18,8 @@ const DEAD_END: Drawn = Drawn {
 fn new_book(rt: HostRuntime) -> Result<(), Fail> {
     let heap = rt.alloc();
     let mut book = Book::new(heap)?;
-    assert_eq!(rt; book.class(LinkNo(0))?.0, 0);
-    assert_eq!(rt; book.find(StepNo(1))?.0, 0);
+    assert_eq!(rt; book.class(LinkNo(0))?, LinkNo(0));
+    assert_eq!(rt; book.find(StepNo(1))?, RowNo(0));
     let lines = lines_left(&mut book, heap)?;
     assert!(rt; lines.as_slice() == b"0 - whole - - 2\n".as_slice());
     Ok(())
@@ -27,8 +27,8 @@ fn new_book(rt: HostRuntime) -> Result<(), Fail> {
 
 // The book of the fork with two rows shown: whatever happens, the third comes next.
 fn check_third(rt: &impl Abort, book: &mut Book, heap: Global) -> Result<(), Fail> {
-    assert_eq!(rt; book.class(LinkNo(4))?.0, 3);
-    assert_eq!(rt; book.find(StepNo(3))?.0, 3);
+    assert_eq!(rt; book.class(LinkNo(4))?, LinkNo(3));
+    assert_eq!(rt; book.find(StepNo(3))?, RowNo(3));
     let lines = lines_left(book, heap)?;
     assert!(rt; lines.as_slice() == b"2 1 single 1 2 1\n3 1 single 3 4 1\n".as_slice());
     book.restart();
@@ -41,21 +41,18 @@ fn refused_opening(rt: HostRuntime) -> Result<(), Fail> {
     let heap = rt.alloc();
     let mut book = book_of(FORK, heap)?;
     assert!(rt; book.next().is_some() && book.next().is_some());
-    let text = text_of(DEAD_END, heap)?;
-    let mut table = table_of(&text.bytes, heap)?;
-    let Err(fault) = book.open(&table) else {
-        return Err(Fail::new("opened"));
-    };
+    let mut table = table_of(&text_of(DEAD_END, heap)?, heap)?;
+    let fault = book.open(&table).err().ok_or("opened")?;
     let line = refusal_bytes(fault.refusal().ok_or("no memory")?, heap)?;
     assert!(rt; line.as_slice() == b"refused 45 shape 1\n".as_slice());
     check_third(&rt, &mut book, heap)?;
     // The book does not ask its plan again.
-    book.open(&table_of(&text_of(FORK, heap)?.bytes, heap)?)?;
+    book.open(&table_of(&text_of(FORK, heap)?, heap)?)?;
     assert!(rt; book.next().is_some() && book.next().is_some());
-    table.read(&text_of(RING, heap)?.bytes)?;
+    table.read(text_of(RING, heap)?.as_bytes())?;
     check_third(&rt, &mut book, heap)?;
     book.open(&table)?;
-    assert_eq!(rt; book.find(StepNo(3))?.0, 1);
+    assert_eq!(rt; book.find(StepNo(3))?, RowNo(1));
     Ok(())
 }
 
@@ -73,13 +70,9 @@ fn no_step_and_no_link(rt: HostRuntime) -> Result<(), Fail> {
     let mut book = book_of(FORK, heap)?;
     assert!(rt; book.next().is_some() && book.next().is_some());
     for number in [6, 7, 1024, 65535] {
-        let Err(fault) = book.find(StepNo(number)) else {
-            return Err(Fail::new("found"));
-        };
+        let fault = book.find(StepNo(number)).err().ok_or("found")?;
         assert_eq!(rt; fault.refusal(), no_such(64, number));
-        let Err(fault) = book.class(LinkNo(number)) else {
-            return Err(Fail::new("has a class"));
-        };
+        let fault = book.class(LinkNo(number)).err().ok_or("has a class")?;
         assert_eq!(rt; fault.refusal(), no_such(66, number));
         check_third(&rt, &mut book, heap)?;
     }
@@ -88,12 +81,7 @@ fn no_step_and_no_link(rt: HostRuntime) -> Result<(), Fail> {
 
 // Whether every byte is as it was.
 fn untouched(bytes: &[u8]) -> bool {
-    for b in bytes {
-        if *b != 7 {
-            return false;
-        }
-    }
-    true
+    bytes.iter().all(|b| *b == 7)
 }
 
 #[test]
@@ -102,9 +90,7 @@ fn buffers(rt: HostRuntime) -> Result<(), Fail> {
     let row = book.next().ok_or("no row")?;
     let refusal = no_such(64, 6);
     let mut short = [7; 63];
-    let Err(fault) = row_line(row, &mut short) else {
-        return Err(Fail::new("a row's line"));
-    };
+    let fault = row_line(row, &mut short).err().ok_or("a row's line")?;
     assert_eq!(rt; fault.refusal(), no_such(65, 64));
     assert!(rt; refusal_line(refusal, &mut short).is_err() && untouched(&short));
     let mut long = [7; 64];

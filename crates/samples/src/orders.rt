@@ -1,7 +1,7 @@
 // Two rounds from one step, with the links written in every order: a cap from the step to itself would part links of one class in some of them.
 use crate::drawing::{Text, table_of};
 use book::Book;
-use model::LinkNo;
+use model::{LinkNo, Logic};
 use plan::{GatewayTable, Turned};
 use std::alloc::{AllocError, Global};
 use std::process::Abort;
@@ -9,15 +9,43 @@ use std::test::Fail;
 
 // A link and a name for its class.
 #[derive(Clone, Copy)]
-struct Named(u16, u16, u8);
+struct Named {
+    tail: u16,
+    head: u16,
+    class: u8,
+}
 
 const LINKS: [Named; 6] = [
-    Named(0, 1, 0),
-    Named(1, 2, 1),
-    Named(2, 1, 1),
-    Named(1, 3, 2),
-    Named(3, 1, 2),
-    Named(1, 4, 0),
+    Named {
+        tail: 0,
+        head: 1,
+        class: 0,
+    },
+    Named {
+        tail: 1,
+        head: 2,
+        class: 1,
+    },
+    Named {
+        tail: 2,
+        head: 1,
+        class: 1,
+    },
+    Named {
+        tail: 1,
+        head: 3,
+        class: 2,
+    },
+    Named {
+        tail: 3,
+        head: 1,
+        class: 2,
+    },
+    Named {
+        tail: 1,
+        head: 4,
+        class: 0,
+    },
 ];
 
 // The order of this number: each link is taken from those left, at the place that the number's remainder tells.
@@ -25,13 +53,10 @@ fn ordered(number: usize, heap: Global) -> Result<Vec<Named>, AllocError> {
     let mut left = Vec::from_slice(heap, &LINKS)?;
     let mut rest = number;
     let mut out = Vec::new(heap);
-    for _ in 0..LINKS.len() {
+    while !left.is_empty() {
         let count = left.len();
-        if count == 0 {
-            break;
-        }
         out.push(left.remove(rest % count))?;
-        rest = rest / count;
+        rest /= count;
     }
     Ok(out)
 }
@@ -39,35 +64,30 @@ fn ordered(number: usize, heap: Global) -> Result<Vec<Named>, AllocError> {
 fn table(links: &[Named], heap: Global) -> Result<GatewayTable, Fail> {
     let mut text = Text::new(0, 4, heap)?;
     for _ in 0..5 {
-        text.step(0)?;
+        text.step(Logic::One)?;
     }
     for link in links {
-        text.link(link.0, link.1)?;
+        text.link(link.tail, link.head)?;
     }
-    table_of(&text.bytes, heap)
+    table_of(&text, heap)
 }
 
-// The first link of the class of this name.
-fn first_of(links: &[Named], name: u8) -> u16 {
-    let mut number = 0u16;
-    for link in links {
-        if link.2 == name {
-            break;
-        }
-        number = number.saturating_add(1);
-    }
-    number
+// The first link of this class.
+fn first_of(links: &[Named], class: u8) -> Option<LinkNo> {
+    let (number, _) = (0..)
+        .map(LinkNo)
+        .zip(links)
+        .find(|(_, link)| link.class == class)?;
+    Some(number)
 }
 
 fn check_classes(rt: &impl Abort, book: &Book, links: &[Named], order: usize) -> Result<(), Fail> {
-    let mut number = 0u16;
-    for link in links {
+    for (number, link) in (0..).map(LinkNo).zip(links) {
         assert_eq!(rt;
-            book.class(LinkNo(number))?.0,
-            first_of(links, link.2),
+            Some(book.class(number)?),
+            first_of(links, link.class),
             "in order {order}"
         );
-        number = number.saturating_add(1);
     }
     Ok(())
 }

@@ -1,7 +1,7 @@
 // Sample plans with their classes, their rows and the innermost row of each step.
 use crate::drawing::{Drawn, lines_left, table_of, text_of};
 use book::Book;
-use model::{LinkNo, StepNo};
+use model::{LinkNo, RowNo, StepNo};
 use plan::Turned;
 use std::alloc::Global;
 use std::process::Abort;
@@ -156,8 +156,7 @@ const SAMPLES: [Sample; 12] = [
 ];
 
 fn opened(sample: &Sample, heap: Global) -> Result<Book, Fail> {
-    let text = text_of(sample.plan, heap)?;
-    let table = table_of(&text.bytes, heap)?;
+    let table = table_of(&text_of(sample.plan, heap)?, heap)?;
     let mut book = Book::new(heap)?;
     if sample.turned {
         book.open(&Turned::new(table))?;
@@ -168,15 +167,11 @@ fn opened(sample: &Sample, heap: Global) -> Result<Book, Fail> {
 }
 
 fn check_numbers(rt: &impl Abort, book: &mut Book, sample: &Sample) -> Result<(), Fail> {
-    let mut link = 0u16;
-    for class in sample.classes {
-        assert_eq!(rt; book.class(LinkNo(link))?.0, *class, "{}", sample.lines);
-        link = link.saturating_add(1);
+    for (link, class) in (0..).map(LinkNo).zip(sample.classes) {
+        assert_eq!(rt; book.class(link)?, LinkNo(*class), "{}", sample.lines);
     }
-    let mut step = 0u16;
-    for home in sample.homes {
-        assert_eq!(rt; book.find(StepNo(step))?.0, *home, "{}", sample.lines);
-        step = step.saturating_add(1);
+    for (step, home) in (0..).map(StepNo).zip(sample.homes) {
+        assert_eq!(rt; book.find(step)?, RowNo(*home), "{}", sample.lines);
     }
     Ok(())
 }

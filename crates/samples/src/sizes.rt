@@ -1,16 +1,16 @@
 // The largest plans and texts, and those that are one larger.
-use crate::drawing::{Text, answer, table_of};
+use crate::drawing::{Text, table_of};
 use book::Book;
-use model::{Kind, LinkNo, Row, RowNo};
+use listing::answer;
+use model::{Kind, LinkNo, Logic, Row, RowNo};
 use std::alloc::{AllocError, Global};
-use std::process::Abort;
 use std::test::Fail;
 
 // 1,024 steps in a row and 510 loops around the middle, each within the one before, with two links or more back: 2,048 links.
 fn nested(heap: Global) -> Result<Text, AllocError> {
     let mut text = Text::new(0, 1023, heap)?;
     for _ in 0..1024 {
-        text.step(0)?;
+        text.step(Logic::One)?;
     }
     for step in 0..1023u16 {
         text.link(step, step + 1)?;
@@ -42,7 +42,7 @@ fn loop_row(k: u16) -> Row {
 fn largest_plan(rt: HostRuntime) -> Result<(), Fail> {
     let heap = rt.alloc();
     let mut text = nested(heap)?;
-    let table = table_of(&text.bytes, heap)?;
+    let table = table_of(&text, heap)?;
     let mut book = Book::new(heap)?;
     book.open(&table)?;
     assert_eq!(rt; book.next().ok_or("no row")?.inside, 1024);
@@ -56,7 +56,7 @@ fn largest_plan(rt: HostRuntime) -> Result<(), Fail> {
     }
     assert!(rt; book.next().is_none());
     text.link(0, 1)?;
-    let line = answer(&text.bytes, heap)?;
+    let line = answer(text.as_bytes(), heap)?;
     assert!(rt; line.as_slice() == b"refused 26 plan 3074\n".as_slice());
     Ok(())
 }
@@ -66,35 +66,28 @@ fn one_step_more(rt: HostRuntime) -> Result<(), Fail> {
     let heap = rt.alloc();
     let mut text = Text::new(0, 1, heap)?;
     for _ in 0..1025 {
-        text.step(0)?;
+        text.step(Logic::One)?;
     }
-    let line = answer(&text.bytes, heap)?;
+    let line = answer(text.as_bytes(), heap)?;
     assert!(rt; line.as_slice() == b"refused 25 plan 1026\n".as_slice());
     Ok(())
 }
 
-// A text of so many bytes, all the same but for the last.
-fn check_long(
-    rt: &impl Abort,
-    count: usize,
-    fill: u8,
-    last: u8,
-    line: &[u8],
-    heap: Global,
-) -> Result<(), Fail> {
-    let mut text = vec![in heap; fill; count]?;
-    text.push(last)?;
-    assert!(rt; answer(&text, heap)?.as_slice() == line);
-    Ok(())
-}
-
+// Texts of so many bytes, all the same but for the last.
 #[test]
 fn longest_text(rt: HostRuntime) -> Result<(), Fail> {
     let heap = rt.alloc();
-    check_long(&rt, 65534, b'\n', b'\n', b"refused 13 text 1\n", heap)?;
-    check_long(&rt, 65535, b'\n', b'\n', b"refused 11 text 0\n", heap)?;
-    check_long(&rt, 65534, b'\n', b'0', b"refused 12 text 65535\n", heap)?;
-    check_long(&rt, 65535, b'\n', b'0', b"refused 11 text 0\n", heap)?;
-    check_long(&rt, 65534, b'0', b'\n', b"refused 21 plan 1\n", heap)?;
-    check_long(&rt, 65533, b'0', b'\n', b"refused 15 text 1\n", heap)
+    for (count, fill, last, line) in [
+        (65534, b'\n', b'\n', "refused 13 text 1\n"),
+        (65535, b'\n', b'\n', "refused 11 text 0\n"),
+        (65534, b'\n', b'0', "refused 12 text 65535\n"),
+        (65535, b'\n', b'0', "refused 11 text 0\n"),
+        (65534, b'0', b'\n', "refused 21 plan 1\n"),
+        (65533, b'0', b'\n', "refused 15 text 1\n"),
+    ] {
+        let mut text = vec![in heap; fill; count]?;
+        text.push(last)?;
+        assert!(rt; answer(&text, heap)?.as_slice() == line.as_bytes());
+    }
+    Ok(())
 }

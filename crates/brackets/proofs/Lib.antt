@@ -7,3 +7,4 @@ pub mod Seen
 pub mod Looked
 pub mod Handling
 pub mod Bounding
+pub mod Spanned

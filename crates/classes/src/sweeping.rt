@@ -10,7 +10,7 @@ use crate::names::{Names, smallest};
 use brackets::{Spanning, Sweep};
 use lists::NoMemory;
 use model::LinkNo;
-use search::{Graph, Visit, closed_links, depth_first};
+use search::{Graph, Visit};
 use std::alloc::Global;
 
 // A sweep over the numbers of a closed plan, and what was named so far. Each bracket of the lists is one of those that can have been named.
@@ -74,8 +74,7 @@ fn first_links(search: &Spanning, heap: Global) -> Result<Vec<LinkNo>, NoMemory>
 pub fn classes(graph: &Graph, heap: Global) -> Result<Vec<LinkNo>, NoMemory>
     ensures { IfOk result (λ v. (length v.items ≡ length graph.now.links.items) × Each (Below (length graph.now.links.items)) (record { 0 = 0 }) v.items) }
 {
-    let links = closed_links(graph, heap)?;
-    let tree = depth_first(graph, heap)?;
-    let firsts = first_links(&Spanning { links, tree }, heap)?;
+    let search = Spanning::of(graph, heap)?;
+    let firsts = first_links(&search, heap)?;
     smallest(&firsts, graph.links.len(), heap)
 }

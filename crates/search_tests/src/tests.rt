@@ -1,4 +1,5 @@
-use model::{LinkNo, StepNo};
+use brackets::Spanning;
+use model::{Ends, LinkNo, StepNo};
 use plan::{GatewayTable, Turned};
 use search::{Digraph, Graph, ShapeFault, Visit, depth_first, sound_order};
 use std::alloc::Global;
@@ -116,5 +117,22 @@ fn trees_have_every_step(rt: HostRuntime) -> Result<(), Fail> {
         link: LinkNo(link),
     });
     assert_eq!(rt; tree.visits.as_slice(), expected.as_slice());
+    Ok(())
+}
+
+// The tree that the method of classes takes, beside the plan's links with the return link behind them.
+#[test]
+fn spannings_have_the_return_link(rt: HostRuntime) -> Result<(), Fail> {
+    let heap = rt.alloc();
+    let graph = Graph::of(&table_of(heap, LOOP)?, heap)?;
+    let search = Spanning::of(&graph, heap)?;
+    let links = [(0, 1), (1, 2), (2, 3), (3, 4), (4, 1), (3, 5), (5, 0)];
+    let links = links.map(|(tail, head)| Ends {
+        tail: StepNo(tail),
+        head: StepNo(head),
+    });
+    assert_eq!(rt; search.links.as_slice(), links.as_slice());
+    let tree = depth_first(&graph, heap)?;
+    assert_eq!(rt; search.tree.visits.as_slice(), tree.visits.as_slice());
     Ok(())
 }

@@ -2,10 +2,10 @@
 use Rattle.std.proofs.Common.{◌≡◌, ℕ, ◌<◌, ◌≢◌, List, [], ◌∷◌, ◌++◌, length, set, sum_by, refl, ap, ◌∙◌, subst, sym, arith, length-append, length-set}
 use Rattle.std.specs.List.{All}
 use Rattle.std.proofs.lemmas.List.{get_or-set_other}
-use Rattle.std.proofs.lemmas.List.Elements.{All-head, All-tail}
+use Rattle.std.proofs.lemmas.List.Elements.{All-head, All-tail, All-cons}
 use Rattle.std.proofs.lemmas.List.Sums.{sum_by-set}
 use Rattle.lists.specs.Many.{row, EachItem}
-use Rattle.lists.proofs.Many.{each-joined}
+use Rattle.lists.proofs.Many.{each-joined, each-set}
 use Rattle.rows.specs.Orders.{After, gathered}
 
 -- the list at c, moved in front of the list at k
@@ -42,3 +42,9 @@ each-gathered P t k (c ∷ cs) lt a e =
     let l = length-joined t k c in
     each-gathered P (joined t k c) k cs (omega arith) (subst (λ (n : ℕ). All (After n k) cs) (sym l) (All-tail (After (length t) k) c cs a))
     (each-joined (λ _. P) t k c lt h.1 (λ x p. p) e)
+
+-- what holds of each item, and of one put in front of the list at k once those at cs were moved there
+pub each-put : {T : Type 0} (P : T → Type 0) (t u : List (List T)) (k : ℕ) (cs : List ℕ) (x : T) → k < length t → All (After (length t) k) cs → u ≡ gathered t k cs → P x → EachItem (λ _. P) t → EachItem (λ _. P) (set u k (x ∷ row u k))
+each-put P t u k cs x lt a e here all =
+    let moved : EachItem (λ _. P) u = subst (EachItem (λ _. P)) (sym e) (each-gathered P t k cs lt a all) in
+    each-set (λ _. P) u k (x ∷ row u k) moved (All-cons P x (row u k) here (moved k (omega (arith, ap length e, length-gathered t k cs))))

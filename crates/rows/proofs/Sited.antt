@@ -8,24 +8,32 @@ use Rattle.std.proofs.Math.ListN.{get_or-map}
 use Rattle.rows.specs.declared.nesting.Fragment.{Fragment}
 use Rattle.rows.specs.declared.nesting.Site.{Site}
 use Rattle.rows.specs.Bounds.{Below}
-use Rattle.rows.specs.Nests.{no_fragment, site_of, SiteIn, Sites, Placed}
+use Rattle.rows.specs.Nests.{no_fragment, site_of, SiteIn, Sites, ExitIn, Exits, Placed}
 
-pub site-read : {m : ℕ} (fs : List Fragment) (k : ℕ) (f : Fragment) (p : Site) → Sites m fs → k < length fs → f ≡ get_or fs k f → f.site ≡ Some p → (p.parent < k) × Below m p.entry × Below m p.exit
+pub site-read : {m : ℕ} (fs : List Fragment) (k : ℕ) (f : Fragment) (p : Site) → Sites m fs → k < length fs → f ≡ get_or fs k f → f.site ≡ Some p → (p.parent < k) × Below m p.entry
 site-read fs k f p sites lt e is = sites k lt p (ap site_of (get_or_default fs k no_fragment f lt ∙ sym e) ∙ is)
 
 pub length-same : (fs gs : List Fragment) → map site_of gs ≡ map site_of fs → length gs ≡ length fs
 length-same fs gs e = sym (length-map gs site_of) ∙ ap length e ∙ length-map fs site_of
 
+site-same : (fs gs : List Fragment) (k : ℕ) → map site_of gs ≡ map site_of fs → site_of (get_or fs k no_fragment) ≡ site_of (get_or gs k no_fragment)
+site-same fs gs k e = sym (get_or-map site_of fs k no_fragment) ∙ ap (λ (t : List (Option Site)). get_or t k None) (sym e) ∙ get_or-map site_of gs k no_fragment
+
 -- fragments with the sites of fs
 pub sites-same : (m : ℕ) (fs gs : List Fragment) → map site_of gs ≡ map site_of fs → Sites m fs → Sites m gs
 sites-same m fs gs e sites k lt p is =
     let long = length-same fs gs e in
-    sites k (omega arith) p (sym (get_or-map site_of fs k no_fragment) ∙ ap (λ (t : List (Option Site)). get_or t k None) (sym e) ∙ get_or-map site_of gs k no_fragment ∙ is)
+    sites k (omega arith) p (site-same fs gs k e ∙ is)
+
+pub exits-same : (m : ℕ) (fs gs : List Fragment) → map site_of gs ≡ map site_of fs → Exits m fs → Exits m gs
+exits-same m fs gs e exits k lt p is =
+    let long = length-same fs gs e in
+    exits k (omega arith) p (site-same fs gs k e ∙ is)
 
 pub placed-same : (fs gs : List Fragment) → map site_of gs ≡ map site_of fs → Placed fs → Placed gs
 placed-same fs gs e placed k first lt =
     let long = length-same fs gs e in
-    subst IsSome (sym (get_or-map site_of fs k no_fragment) ∙ ap (λ (t : List (Option Site)). get_or t k None) (sym e) ∙ get_or-map site_of gs k no_fragment) (placed k first (omega arith))
+    subst IsSome (site-same fs gs k e) (placed k first (omega arith))
 
 -- fragments with the sites of v, written back over v
 pub written : (v : Vec Fragment Global) (gs : List Fragment) → map site_of gs ≡ map site_of (vec_items v) → map site_of (vec_items (with_items v gs)) ≡ map site_of (vec_items v)
@@ -37,6 +45,12 @@ site-last m fs f all = subst (SiteIn m (length fs)) (get_or_push fs f no_fragmen
 
 pub sites-front : (m : ℕ) (fs : List Fragment) (f : Fragment) → Sites m (fs ++ f ∷ []) → Sites m fs
 sites-front m fs f all k lt = subst (SiteIn m k) (get_or_append_left fs (f ∷ []) no_fragment k lt) (all k (omega (arith, length_push fs f)))
+
+pub exit-last : (m : ℕ) (fs : List Fragment) (f : Fragment) → Exits m (fs ++ f ∷ []) → ExitIn m f
+exit-last m fs f all = subst (ExitIn m) (get_or_push fs f no_fragment (length fs) refl) (all (length fs) (omega (arith, length_push fs f)))
+
+pub exits-front : (m : ℕ) (fs : List Fragment) (f : Fragment) → Exits m (fs ++ f ∷ []) → Exits m fs
+exits-front m fs f all k lt = subst (ExitIn m) (get_or_append_left fs (f ∷ []) no_fragment k lt) (all k (omega (arith, length_push fs f)))
 
 pub placed-last : (fs : List Fragment) (f : Fragment) → Placed (fs ++ f ∷ []) → 0 < length fs → IsSome f.site
 placed-last fs f all first = subst (λ (g : Fragment). IsSome g.site) (get_or_push fs f no_fragment (length fs) refl) (all (length fs) first (omega (arith, length_push fs f)))

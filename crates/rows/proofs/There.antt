@@ -1,5 +1,5 @@
 -- The values that are there, one after the other.
-use Rattle.std.proofs.Common.{◌≡◌, ℕ, zero, suc, ◌<◌, ◌≤◌, Bool, true, false, ◌⊎◌, List, [], ◌∷◌, length, get_or, set, Some, None, MatchBool, Option, Bor, sym, refl, ap, ◌∙◌, subst, inl, inr, arith, length-set}
+use Rattle.std.proofs.Common.{◌≡◌, ℕ, zero, suc, ◌<◌, ◌≤◌, Bool, true, false, ◌⊎◌, List, [], ◌∷◌, length, get_or, set, IfSome, Some, None, MatchBool, Option, Bor, sym, refl, ap, ◌∙◌, subst, inl, inr, arith, length-set}
 use Rattle.std.specs.List.{All, flat_map}
 use Rattle.std.specs.Option.{option_copied, option_to_list}
 use Rattle.std.specs.Iterator.Adapters.{option_iter_item, option_iter_done, option_iter_steps}
@@ -30,6 +30,14 @@ pub all_there : {X : Type 0} (P : X → Type 0) (xs : List (Option X)) → EachS
 all_there P [] all = All-nil P
 all_there P (None ∷ xs) all = all_there P xs (λ k x e. all (suc k) x e)
 all_there P (Some x ∷ xs) all = All-cons P x (flat_map option_to_list xs) (all zero x refl) (all_there P xs (λ k y e. all (suc k) y e))
+
+-- what holds of each value that is there holds of the one at k, if there is one
+pub some_there : {X : Type 0} (P : X → Type 0) (xs : List (Option X)) (k : ℕ) → EachSome P xs → IfSome (get_or xs k None) P
+some_there {X = X} P xs k all = at (get_or xs k None) refl
+  where
+    at : (o : Option X) → get_or xs k None ≡ o → IfSome o P
+    at None e = tt
+    at (Some x) e = all k x e
 
 -- a value put at i, where P may go by the place
 pub each_some_set_at : {X : Type 0} (P : ℕ → X → Type 0) (xs : List (Option X)) (i : ℕ) (x : X) → ((k : ℕ) (y : X) → get_or xs k None ≡ Some y → P k y) → P i x → (k : ℕ) (y : X) → get_or (set xs i (Some x)) k None ≡ Some y → P k y

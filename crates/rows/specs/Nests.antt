@@ -3,7 +3,7 @@ use Rattle.std.specs.Prelude.{◌≡◌, ℕ, ◌<◌, true, cond, List, length,
 use Rattle.std.specs.Option.{IsSome}
 use Rattle.model.specs.declared.numbers.Ends.{Ends}
 use Rattle.model.specs.declared.numbers.LinkNo.{LinkNo}
-use Rattle.theory.specs.Each.{EachSome}
+use Rattle.theory.specs.Each.{Each, EachSome}
 use Rattle.rows.specs.declared.nesting.Fragment.{Fragment}
 use Rattle.rows.specs.declared.nesting.Site.{Site}
 use Rattle.rows.specs.Bounds.{Below}
@@ -30,13 +30,21 @@ home_after fs homes l e (Some x) = length fs
 abbrev pub put_in : Fragment → Site → Fragment
 put_in around s = record { site = Some s; depth = counted around.depth true; own = none_own; inside = 0 }
 
--- a fragment's parent is among the first n, its entry and its exit are among m links
+-- a fragment's parent is among the first n, its entry among m links
 abbrev pub SiteIn : ℕ → ℕ → Fragment → Type 0
-SiteIn m n f = (p : Site) → f.site ≡ Some p → (p.parent < n) × Below m p.entry × Below m p.exit
+SiteIn m n f = (p : Site) → f.site ≡ Some p → (p.parent < n) × Below m p.entry
 
 -- each fragment stands after its parent
 abbrev pub Sites : ℕ → List Fragment → Type 0
 Sites m fs = (k : ℕ) → k < length fs → SiteIn m k (slice_index_or fs k no_fragment)
+
+-- a fragment's exit is among m links
+abbrev pub ExitIn : ℕ → Fragment → Type 0
+ExitIn m f = (p : Site) → f.site ≡ Some p → Below m p.exit
+
+-- each fragment's exit is among m links
+abbrev pub Exits : ℕ → List Fragment → Type 0
+Exits m = Each (ExitIn m) no_fragment
 
 -- each fragment but the first, which is the whole plan, has a site
 abbrev pub Placed : List Fragment → Type 0

@@ -1,57 +1,55 @@
 // What is counted at each step and at each fragment. A plan has at most 2,048 links and 1,024 steps, so that no count reaches the end of its type.
 ghost use Rattle.std.specs.Prelude.{◌≡◌, ℕ, map, length, replicate, IfOk};
-ghost use Rattle.rows.specs.Bounds.{AllBelow};
+ghost use Rattle.rows.specs.Bounds.{AllBelow, StepsBelow};
 ghost use Rattle.rows.specs.Counts.{count_at, counted_by, linked_by};
 ghost use Rattle.rows.specs.Kinds.{branching, opening, closing};
 ghost use Rattle.rows.specs.Nests.{Sites, site_of};
 
-use crate::classing::Classed;
 use crate::nesting::{Fragment, Nesting};
 use lists::NoMemory;
-use model::Logic;
+use model::{Ends, Logic};
 use std::alloc::Global;
 
 // How many links enter and leave a step.
 #[derive(Clone, Copy, Default)]
-pub(crate) struct Degree {
-    pub(crate) ins: u16,
-    pub(crate) outs: u16,
+pub struct Degree {
+    pub ins: u16,
+    pub outs: u16,
 }
 
 impl Degree {
-    pub(crate) fn branches(self) -> bool
+    pub fn branches(self) -> bool
         ensures { result ≡ branching self }
     {
         self.ins >= 2 || self.outs >= 2
     }
 
-    pub(crate) fn opens(self) -> bool
+    pub fn opens(self) -> bool
         ensures { result ≡ opening self }
     {
         self.ins == 1 && self.outs >= 2
     }
 
-    pub(crate) fn closes(self) -> bool
+    pub fn closes(self) -> bool
         ensures { result ≡ closing self }
     {
         self.ins >= 2 && self.outs == 1
     }
 }
 
-impl Classed<'_> {
-    // For each step, how many links enter and leave it.
-    pub(crate) fn degrees(&self, heap: Global) -> Result<Vec<Degree>, NoMemory>
-        ensures { IfOk result (λ v. (length v.items ≡ length self.now.logics.now) × (v.items ≡ linked_by (replicate (length self.now.logics.now) (record { ins = 0; outs = 0 })) self.now.links.now)) }
-    {
-        let mut degrees = vec![in heap; Degree::default(); self.logics.len()]?;
-        for ends in self.links {
-            let tail = &mut degrees[ends.tail.0 as usize];
-            tail.outs = tail.outs.saturating_add(1);
-            let head = &mut degrees[ends.head.0 as usize];
-            head.ins = head.ins.saturating_add(1);
-        }
-        Ok(degrees)
+// For each step, how many links enter and leave it.
+pub fn degrees(links: &[Ends], steps: usize, heap: Global) -> Result<Vec<Degree>, NoMemory>
+    requires { StepsBelow steps links.now }
+    ensures { IfOk result (λ v. (length v.items ≡ steps) × (v.items ≡ linked_by (replicate steps (record { ins = 0; outs = 0 })) links.now)) }
+{
+    let mut degrees = vec![in heap; Degree::default(); steps]?;
+    for ends in links {
+        let tail = &mut degrees[ends.tail.0 as usize];
+        tail.outs = tail.outs.saturating_add(1);
+        let head = &mut degrees[ends.head.0 as usize];
+        head.ins = head.ins.saturating_add(1);
     }
+    Ok(degrees)
 }
 
 impl Fragment {

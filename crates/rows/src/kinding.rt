@@ -7,16 +7,16 @@ use model::{Kind, Logic};
 
 // How many own steps a fragment has, how many of them are `one`, how many branch, and how many of those are `one`.
 #[derive(Clone, Copy, Default)]
-pub(crate) struct Own {
-    pub(crate) steps: u16,
-    pub(crate) ones: u16,
-    pub(crate) branching: u16,
-    pub(crate) branching_ones: u16,
+pub struct Own {
+    pub steps: u16,
+    pub ones: u16,
+    pub branching: u16,
+    pub branching_ones: u16,
 }
 
 impl Own {
     // One own step more.
-    pub(crate) fn with(self, logic: Logic, branches: bool) -> Own
+    pub fn with(self, logic: Logic, branches: bool) -> Own
         ensures { result ≡ with_own self logic branches }
     {
         let one = logic == Logic::One;
@@ -32,7 +32,7 @@ impl Own {
 }
 
 // The first kind that fits; `head` is the step that the entry leads to, `tail` the one that the exit leaves.
-pub(crate) fn kind_of(own: Own, head: Degree, tail: Degree) -> Kind
+pub fn kind_of(own: Own, head: Degree, tail: Degree) -> Kind
     ensures { result ≡ kind_by own head tail }
 {
     if own.branching == 0 {

@@ -3,16 +3,17 @@ ghost use Rattle.std.specs.Prelude.{◌≡◌, ◌^◌, ◌<◌, ◌≤◌, map,
 ghost use Rattle.std.specs.List.{All};
 ghost use Rattle.rows.specs.Bounds.{AllBelow};
 ghost use Rattle.rows.specs.Listed.{row_by};
-ghost use Rattle.rows.specs.Nests.{SiteIn};
+ghost use Rattle.rows.specs.Nests.{ExitIn, SiteIn};
 ghost use Rattle.rows.specs.Orders.{Known};
 ghost use Rattle.rows.specs.Runs.{NestedRuns};
 ghost use Rattle.rows.specs.declared.listing.RowRun.{RowRun};
 
 use crate::arranging::{Table, tabulate};
 use crate::classing::Classed;
-use crate::counting::Degree;
+use crate::counting::{Degree, degrees};
 use crate::kinding::kind_of;
-use crate::nesting::{Fragment, Nesting};
+use crate::nesting::{Fragment, Nesting, nest};
+use crate::pairing::exits;
 use crate::running::runs;
 use lists::NoMemory;
 use model::{Kind, Row, RowNo};
@@ -51,6 +52,7 @@ impl Classed<'_> {
     // The row of a fragment: its kind by the steps that its entry leads to and that its exit leaves.
     fn row(&self, number: RowNo, fragment: Fragment, row_of: &[u16], degrees: &[Degree]) -> Row
         requires site { SiteIn (length self.now.links.now) (length row_of.now) fragment }
+        requires exit { ExitIn (length self.now.links.now) fragment }
         requires degrees { length degrees.now ≡ length self.now.logics.now }
         ensures { result ≡ row_by self.now.links.now degrees.now row_of.now number fragment }
     {
@@ -107,9 +109,15 @@ impl Classed<'_> {
     pub fn arrange(&self, heap: Global) -> Result<Arranged, NoMemory>
         ensures { IfOk result (λ t. NestedRuns (map (λ (r : RowRun). r.run) t.rows.items) × (length t.homes.items ≡ length self.now.logics.now) × (length t.rows.items < 2 ^ 16)) }
     {
-        let exits = self.exits(heap)?;
-        let mut nesting = self.nest(exits.as_slice(), heap)?;
-        let degrees = self.degrees(heap)?;
+        let exits = exits(self.order, self.classes, heap)?;
+        let mut nesting = nest(
+            self.links,
+            self.logics.len(),
+            self.order,
+            exits.as_slice(),
+            heap,
+        )?;
+        let degrees = degrees(self.links, self.logics.len(), heap)?;
         nesting.count(self.logics, degrees.as_slice());
         let table = tabulate(nesting.in_order(heap)?, heap)?;
         let runs = runs(table.records.as_slice(), heap)?;

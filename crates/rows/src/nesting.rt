@@ -1,9 +1,8 @@
 // How the fragments nest, found along the order of search: a link leaves the innermost fragment of its tail if it is the exit, and enters the fragment whose entry it is.
-ghost use Rattle.std.specs.Prelude.{◌≡◌, ◌+◌, ◌^◌, ◌<◌, ◌≤◌, [], ◌∷◌, ◌++◌, length, IfSome, IfOk, OnOk, slice_index_or, slice_set};
-ghost use Rattle.rows.specs.Bounds.{AllBelow, SomeBelow};
-ghost use Rattle.rows.specs.Nests.{Sites, Placed, Entered, no_fragment, left_of, home_after, put_in};
+ghost use Rattle.std.specs.Prelude.{◌≡◌, ℕ, ◌+◌, ◌^◌, ◌<◌, ◌≤◌, [], ◌∷◌, ◌++◌, length, IfSome, IfOk, OnOk, slice_index_or, slice_set};
+ghost use Rattle.rows.specs.Bounds.{AllBelow, Below, LinksBelow, SomeBelow, StepsBelow};
+ghost use Rattle.rows.specs.Nests.{Sites, Exits, Placed, Entered, no_fragment, left_of, home_after, put_in};
 
-use crate::classing::Classed;
 use crate::kinding::Own;
 use lists::NoMemory;
 use model::{Ends, LinkNo};
@@ -11,27 +10,27 @@ use std::alloc::Global;
 
 // Where a fragment lies: the fragment directly around it, its entry and its exit.
 #[derive(Clone, Copy)]
-pub(crate) struct Site {
-    pub(crate) parent: u16,
-    pub(crate) entry: LinkNo,
-    pub(crate) exit: LinkNo,
+pub struct Site {
+    pub parent: u16,
+    pub entry: LinkNo,
+    pub exit: LinkNo,
 }
 
 // A fragment by its site, how many fragments it lies in, its own steps, and how many steps are inside it. The whole plan has no site.
 #[derive(Clone, Copy, Default)]
-pub(crate) struct Fragment {
-    pub(crate) site: Option<Site>,
-    pub(crate) depth: u16,
-    pub(crate) own: Own,
-    pub(crate) inside: u16,
+pub struct Fragment {
+    pub site: Option<Site>,
+    pub depth: u16,
+    pub own: Own,
+    pub inside: u16,
 }
 
 // The fragments, first the whole plan, then each after its parent; for each step the innermost fragment that it is inside; and for each link the fragment that it enters.
 #[derive(Drop)]
-pub(crate) struct Nesting {
-    pub(crate) fragments: Vec<Fragment>,
-    pub(crate) homes: Vec<u16>,
-    pub(crate) entered: Vec<Option<u16>>,
+pub struct Nesting {
+    pub fragments: Vec<Fragment>,
+    pub homes: Vec<u16>,
+    pub entered: Vec<Option<u16>>,
     ghost some: { 1 ≤ length fragments.items },
     ghost sites: { Sites (length entered.items) fragments.items },
     ghost placed: { Placed fragments.items },
@@ -41,7 +40,7 @@ pub(crate) struct Nesting {
 
 impl Nesting {
     // The whole plan alone.
-    fn new(steps: usize, links: usize, heap: Global) -> Result<Nesting, NoMemory>
+    pub fn new(steps: usize, links: usize, heap: Global) -> Result<Nesting, NoMemory>
         ensures { IfOk result (λ t. (length t.fragments.items ≡ 1) × (length t.homes.items ≡ steps) × (length t.entered.items ≡ links)) }
     {
         let homes = vec![in heap; 0; steps]?;
@@ -70,9 +69,9 @@ impl Nesting {
     fn enter(&mut self, site: Site) -> Result<u16, NoMemory>
         requires parent { site.parent < length self.old.fragments.items }
         requires entry { site.entry.0 < length self.old.entered.items }
-        requires exit { site.exit.0 < length self.old.entered.items }
         requires few { length self.old.fragments.items < 2 ^ 16 }
         ensures made { IfOk result (λ k. (k ≡ length self.old.fragments.items) × (self.new.fragments.items ≡ self.old.fragments.items ++ put_in (slice_index_or self.old.fragments.items site.parent no_fragment) site ∷ []) × (self.new.entered.items ≡ slice_set self.old.entered.items site.entry.0 (Some k))) }
+        ensures exits { (m : ℕ) → Below m site.exit → Exits m self.old.fragments.items → Exits m self.new.fragments.items }
         ensures more { length self.new.fragments.items ≤ length self.old.fragments.items + 1 }
         ensures homes { self.new.homes ≡ self.old.homes }
         ensures links { length self.new.entered.items ≡ length self.old.entered.items }
@@ -89,13 +88,18 @@ impl Nesting {
     }
 
     // Goes along a link, which enters a fragment if it has an exit.
-    fn follow(&mut self, entry: LinkNo, ends: Ends, exit: Option<LinkNo>) -> Result<(), NoMemory>
+    pub fn follow(
+        &mut self,
+        entry: LinkNo,
+        ends: Ends,
+        exit: Option<LinkNo>,
+    ) -> Result<(), NoMemory>
         requires link { entry.0 < length self.old.entered.items }
         requires tail { ends.tail.0 < length self.old.homes.items }
         requires head { ends.head.0 < length self.old.homes.items }
-        requires exit { IfSome exit (λ l. l.0 < length self.old.entered.items) }
         requires few { length self.old.fragments.items < 2 ^ 16 }
         ensures home { OnOk result (self.new.homes.items ≡ slice_set self.old.homes.items ends.head.0 (home_after self.old.fragments.items self.old.homes.items entry ends exit)) }
+        ensures exits { (m : ℕ) → IfSome exit (Below m) → Exits m self.old.fragments.items → Exits m self.new.fragments.items }
         ensures more { length self.new.fragments.items ≤ length self.old.fragments.items + 1 }
         ensures steps { length self.new.homes.items ≡ length self.old.homes.items }
         ensures links { length self.new.entered.items ≡ length self.old.entered.items }
@@ -114,18 +118,24 @@ impl Nesting {
     }
 }
 
-impl Classed<'_> {
-    // Follows the links in the order of search.
-    pub(crate) fn nest(&self, exits: &[Option<LinkNo>], heap: Global) -> Result<Nesting, NoMemory>
-        requires each { length exits.now ≡ length self.now.links.now }
-        requires known { SomeBelow (length self.now.links.now) exits.now }
-        ensures { IfOk result (λ t. (length t.homes.items ≡ length self.now.logics.now) × (length t.entered.items ≡ length self.now.links.now) × (length t.fragments.items ≤ length self.now.order.now + 1)) }
-    {
-        let mut nesting = Nesting::new(self.logics.len(), self.links.len(), heap)?;
-        for link in self.order {
-            let at = link.0 as usize;
-            nesting.follow(*link, self.links[at], exits[at])?;
-        }
-        Ok(nesting)
+// Follows the links in the order of search.
+pub fn nest(
+    links: &[Ends],
+    steps: usize,
+    order: &[LinkNo],
+    exits: &[Option<LinkNo>],
+    heap: Global,
+) -> Result<Nesting, NoMemory>
+    requires ends { StepsBelow steps links.now }
+    requires order { LinksBelow (length links.now) order.now }
+    requires exits { length exits.now ≡ length links.now }
+    requires few { length order.now < 2 ^ 15 }
+    ensures { IfOk result (λ t. (length t.homes.items ≡ steps) × (length t.entered.items ≡ length links.now) × (length t.fragments.items ≤ length order.now + 1) × ((m : ℕ) → SomeBelow m exits.now → Exits m t.fragments.items)) }
+{
+    let mut nesting = Nesting::new(steps, links.len(), heap)?;
+    for link in order {
+        let at = link.0 as usize;
+        nesting.follow(*link, links[at], exits[at])?;
     }
+    Ok(nesting)
 }

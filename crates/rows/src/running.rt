@@ -23,7 +23,7 @@ fn run_at(records: &[Record], runs: &[u16], i: usize) -> usize
     end - i
 }
 
-pub(crate) fn runs(records: &[Record], heap: Global) -> Result<Vec<u16>, NoMemory>
+pub fn runs(records: &[Record], heap: Global) -> Result<Vec<u16>, NoMemory>
     requires { length records.now < 2 ^ 16 }
     ensures { IfOk result (λ v. (length v.items ≡ length records.now) × RunsFrom (map depth_of records.now) 0 v.items) }
 {

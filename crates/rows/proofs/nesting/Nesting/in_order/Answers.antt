@@ -2,16 +2,16 @@ use Rattle.std.proofs.Common.{◌≡◌, ◌<◌, ℕ, List, [], ◌∷◌, ◌+
 use Rattle.std.specs.List.{All}
 use Rattle.std.proofs.lemmas.List.{length_push, length-replicate}
 use Rattle.std.proofs.lemmas.List.Folds.{sum_by-replicate}
-use Rattle.std.proofs.lemmas.List.Elements.{All-nil, All-cons}
+use Rattle.std.proofs.lemmas.List.Elements.{All-nil}
 use Rattle.std.proofs.lemmas.List.Sums.{sum_by-set}
 use Rattle.lists.specs.Many.{row, EachItem}
 use Rattle.lists.proofs.Many.{each-set, each-replicate}
 use Rattle.rows.specs.declared.arranging.Record.{Record}
 use Rattle.rows.specs.declared.nesting.Fragment.{Fragment}
-use Rattle.rows.specs.Nests.{SiteIn, Sites, Placed}
-use Rattle.rows.specs.Orders.{After, Known, Lies}
-use Rattle.rows.proofs.Gathers.{length-gathered, sum-gathered, each-gathered}
-use Rattle.rows.proofs.Sited.{site-last, sites-front, placed-last, placed-front}
+use Rattle.rows.specs.Nests.{SiteIn, Sites, Exits, Placed}
+use Rattle.rows.specs.Orders.{After, Known, Lies, Numbered}
+use Rattle.rows.proofs.Gathers.{length-gathered, sum-gathered, each-put}
+use Rattle.rows.proofs.Sited.{site-last, sites-front, exit-last, exits-front, placed-last, placed-front}
 use Rattle.rows.proofs.nesting.Nesting.in_order.Goals as goal
 use Rattle.rows.proofs.nesting.Nesting.in_order.Goals.{In-Some}
 
@@ -41,7 +41,8 @@ loop-k-init c =
       lists = omega (arith, ap length none, long, c.len.ensures, s.fragments.ok.0);
       same = c.in_ok-children.ensures.0;
       after = c.in_ok-children.ensures.1;
-      known = subst (EachItem (λ _. Known m n)) (sym none) (each-replicate (λ _. Known m n) c.len.result);
+      numbered = subst (EachItem (λ _. Numbered m n)) (sym none) (each-replicate (λ _. Numbered m n) c.len.result);
+      known = λ e. (subst (Exits m) (sym all) e, subst (EachItem (λ _. Known m n)) (sym none) (each-replicate (λ _. Known m n) c.len.result));
       lies = subst (EachItem (λ _. Lies)) (sym none) (each-replicate (λ _. Lies) c.len.result);
     }
 
@@ -81,11 +82,9 @@ loop-k-preserved c =
     let g = c.gather.new.below in
     let e = c.gather.ensures.below in
     let long : length g ≡ n = ap length e ∙ length-gathered old k moved ∙ known.lists in
-    let gathered : EachItem (λ _. Known m n) g = subst (EachItem (λ _. Known m n)) (sym e) (each-gathered (Known m n) old k moved lt after known.known) in
-    let lying : EachItem (λ _. Lies) g = subst (EachItem (λ _. Lies)) (sym e) (each-gathered Lies old k moved lt after known.lies) in
     let p = c.in_ok-push_at.ensures in
     let r : Record = record { number = k; fragment = fragment } in
-    let here : Known m n r = (within i, λ q is. let at = site q is in (omega (arith, at.0, within i), at.1, at.2)) in
+    let here : Numbered m n r = (within i, λ q is. let at = site q is in (omega (arith, at.0, within i), at.1)) in
     let lies : Lies r = λ first. placed-last left fragment placed (omega (arith, first, number i)) in
     record {
       first = c.in-Some.ensures.steps.0 ∙ known.first;
@@ -95,6 +94,9 @@ loop-k-preserved c =
       lists = ap length p ∙ length-set g k _ ∙ long;
       same = ap length c.gather.ensures.children ∙ length-set c.loop-k.children k [] ∙ known.same;
       after = subst (EachItem (After n)) (sym c.gather.ensures.children) (each-set (After n) c.loop-k.children k [] known.after (All-nil (After n k)));
-      known = subst (EachItem (λ _. Known m n)) (sym p) (each-set (λ _. Known m n) g k _ gathered (All-cons (Known m n) r (row g k) here (gathered k (omega (arith, long, within i)))));
-      lies = subst (EachItem (λ _. Lies)) (sym p) (each-set (λ _. Lies) g k _ lying (All-cons Lies r (row g k) lies (lying k (omega (arith, long, within i)))));
+      numbered = subst (EachItem (λ _. Numbered m n)) (sym p) (each-put (Numbered m n) old g k moved r lt after e here known.numbered);
+      known = λ all.
+          let exits : Exits m (left ++ fragment ∷ []) = subst (Exits m) (taken i) (known.known all).0 in
+          (exits-front m left fragment exits, subst (EachItem (λ _. Known m n)) (sym p) (each-put (Known m n) old g k moved r lt after e (here, exit-last m left fragment exits) (known.known all).1));
+      lies = subst (EachItem (λ _. Lies)) (sym p) (each-put Lies old g k moved r lt after e lies known.lies);
     }

@@ -1,7 +1,7 @@
 use Rattle.std.proofs.Common.{◌≡◌, ◌+◌, length, sum_by, vec_items}
 use Rattle.lists.specs.Many.{EachItem}
-use Rattle.rows.specs.Nests.{Sites, Placed}
-use Rattle.rows.specs.Orders.{After, Known, Lies}
+use Rattle.rows.specs.Nests.{Sites, Exits, Placed}
+use Rattle.rows.specs.Orders.{After, Known, Lies, Numbered}
 use Rattle.rows.proofs.nesting.Nesting.in_order.Given as goal
 
 abbrev pub invariant-loop-k : goal.invariant-loop-k
@@ -13,6 +13,7 @@ invariant-loop-k l = record {
   lists : length l.below ≡ length (vec_items l.self.fragments);
   same : length l.children ≡ length (vec_items l.self.fragments);
   after : EachItem (After (length (vec_items l.self.fragments))) l.children;
-  known : EachItem (λ _. Known (length (vec_items l.self.entered)) (length (vec_items l.self.fragments))) l.below;
+  numbered : EachItem (λ _. Numbered (length (vec_items l.self.entered)) (length (vec_items l.self.fragments))) l.below;
+  known : Exits (length (vec_items l.self.entered)) (vec_items l.self.fragments) → Exits (length (vec_items l.self.entered)) l.k-iterator.iter.iter.rest.now × EachItem (λ _. Known (length (vec_items l.self.entered)) (length (vec_items l.self.fragments))) l.below;
   lies : EachItem (λ _. Lies) l.below;
 }

@@ -1,14 +1,23 @@
 // A line under way: its fields one after the other, each with the byte after it, in the line's own 64 bytes. No field has more than 8 bytes.
-// It isn't made by `write!`, which promises the bytes only where it answers Ok: a line is never given up. Each field asks for its room in a clause: the room is the call's, as the line only grows.
-ghost use Rattle.std.specs.Prelude.{◌≡◌, ◌+◌, ◌≤◌, [], ◌∷◌, ◌++◌, length, decimal};
+// A line is written for every row, so each field goes straight into the line's bytes, with no `write!`, `ArrayString` or `itoa` between. Each field asks for its room in a clause: the room is the call's, as the line only grows.
+ghost use Rattle.std.specs.Prelude.{◌≡◌, ◌+◌, ◌%◌, ◌<◌, ◌≤◌, [], ◌∷◌, ◌++◌, length, decimal, MatchResult};
 ghost use Rattle.lines.specs.Lines.{optional, after_byte, place_bytes, Lined};
 
 use crate::writing::ShortBuffer;
-use arrayvec::ArrayString;
 use model::Place;
 use std::marker::Model;
 
 const ROOM: usize = 64;
+
+// Refuses a buffer that hasn't room for every line. It's asked before a line is begun, so that none is made for a short buffer.
+pub(crate) fn room_in(buf: &[u8]) -> Result<(), ShortBuffer>
+    ensures { MatchResult result (λ _. ROOM ≤ length buf.now) (λ _. length buf.now < ROOM) }
+{
+    if buf.len() < ROOM {
+        return Err(ShortBuffer);
+    }
+    Ok(())
+}
 
 // What stands after a field.
 #[derive(Clone, Copy, PartialEq, Eq, Debug)]
@@ -18,28 +27,33 @@ pub(crate) enum After {
 }
 
 impl After {
-    fn as_char(self) -> char
+    fn as_byte(self) -> u8
         ensures { result ≡ after_byte self }
     {
         match self {
-            After::Blank => ' ',
-            After::LineFeed => '\n',
+            After::Blank => b' ',
+            After::LineFeed => b'\n',
         }
     }
 }
 
+// The length has 32 bits and stands before the bytes: no index reaches back to it, so the compiler sees that writing a byte leaves it as it was, and keeps it in a register.
 #[derive(Drop)]
 pub(crate) struct Line {
-    text: ArrayString<ROOM>,
+    len: u32,
+    bytes: [u8; ROOM],
 }
 
-// A line is the bytes that stand in it.
+// A line is the bytes that were put into it.
 impl Model for Line {
-    ghost use Rattle.std.specs.Prelude.{ℕ, List};
+    ghost use Rattle.std.specs.Prelude.{ℕ, List, ◌≤◌, take};
+    ghost use Rattle.lines.specs.declared.line.TheConstants.{ROOM};
 
     ghost Value = { List ℕ };
 
-    ghost view = { λ l. l.text.bytes };
+    ghost view = { λ l. take l.len l.bytes };
+
+    ghost invariant = { λ l. l.len ≤ ROOM };
 }
 
 impl Line {
@@ -47,8 +61,50 @@ impl Line {
         ensures { result ≡ [] }
     {
         Line {
-            text: ArrayString::new(),
+            len: 0,
+            bytes: [0; ROOM],
         }
+    }
+
+    fn put(&mut self, byte: u8)
+        requires { length self.old < ROOM }
+        ensures { self.new ≡ self.old ++ byte ∷ [] }
+    {
+        self.bytes[self.len as usize] = byte;
+        self.len += 1;
+    }
+
+    fn last_digit(&mut self, n: u16)
+        requires { length self.old < ROOM }
+        ensures { self.new ≡ self.old ++ (48 + n % 10) ∷ [] }
+    {
+        self.put(b'0' + (n % 10) as u8);
+    }
+
+    // No number begins with a nought, but for nought itself.
+    fn leading_digit(&mut self, n: u16)
+        requires { length self.old < ROOM }
+        ensures nought { n ≡ 0 → self.new ≡ self.old }
+        ensures digit { 0 < n → self.new ≡ self.old ++ (48 + n % 10) ∷ [] }
+        ensures short { length self.new ≤ length self.old + 1 }
+    {
+        if n > 0 {
+            self.last_digit(n);
+        }
+    }
+
+    // The digits of a number, which are five at most. They're kept out of line, since a line has up to five numbers.
+    #[inline(never)]
+    fn digits(&mut self, n: u16)
+        requires { length self.old + 5 ≤ ROOM }
+        ensures written { self.new ≡ self.old ++ decimal n }
+        ensures short { length self.new ≤ length self.old + 5 }
+    {
+        self.leading_digit(n / 10000);
+        self.leading_digit(n / 1000);
+        self.leading_digit(n / 100);
+        self.leading_digit(n / 10);
+        self.last_digit(n);
     }
 
     // A word and the byte after it.
@@ -58,8 +114,11 @@ impl Line {
         ensures written { self.new ≡ self.old ++ (word.now ++ after_byte after ∷ []) }
         ensures short { length self.new ≤ length self.old + 9 }
     {
-        self.text.push_str(word);
-        self.text.push(after.as_char());
+        let start = self.len as usize;
+        let end = start + word.len();
+        self.bytes[start..end].copy_from_slice(word.as_bytes());
+        self.len = end as u32;
+        self.put(after.as_byte());
     }
 
     // A number and the byte after it.
@@ -68,8 +127,8 @@ impl Line {
         ensures written { self.new ≡ self.old ++ (decimal n ++ after_byte after ∷ []) }
         ensures short { length self.new ≤ length self.old + 9 }
     {
-        let mut digits = itoa::Buffer::new();
-        self.word(digits.format(n), after);
+        self.digits(n);
+        self.put(after.as_byte());
     }
 
     // A number or `-`, and the byte after it.
@@ -99,14 +158,12 @@ impl Line {
     }
 
     // Writes the line over the front of a buffer, and answers its length.
-    pub(crate) fn copy_to(self, buf: &mut [u8]) -> Result<usize, ShortBuffer>
-        ensures { Lined self buf.old result buf.new }
+    pub(crate) fn copy_to(&self, buf: &mut [u8]) -> Result<usize, ShortBuffer>
+        ensures { Lined self.now buf.old result buf.new }
     {
-        if buf.len() < ROOM {
-            return Err(ShortBuffer);
-        }
-        let bytes = self.text.as_str().as_bytes();
-        buf[..bytes.len()].copy_from_slice(bytes);
-        Ok(bytes.len())
+        room_in(buf)?;
+        let len = self.len as usize;
+        buf[..len].copy_from_slice(&self.bytes[..len]);
+        Ok(len)
     }
 }

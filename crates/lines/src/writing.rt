@@ -3,7 +3,7 @@ ghost use Rattle.std.specs.Prelude.{◌≡◌};
 ghost use Rattle.lines.specs.Lines.{row_bytes, refusal_bytes, Lined};
 ghost use Rattle.lines.specs.Short.{short_refusal};
 
-use crate::line::{After, Line};
+use crate::line::{After, Line, room_in};
 use model::{Layer, Place, Refusal, Row};
 
 // A buffer of fewer than 64 bytes.
@@ -26,6 +26,7 @@ impl ShortBuffer {
 pub fn row_line(row: Row, buf: &mut [u8]) -> Result<usize, ShortBuffer>
     ensures { Lined (row_bytes row) buf.old result buf.new }
 {
+    room_in(buf)?;
     let mut line = Line::new();
     line.number(row.number.0, After::Blank);
     line.number_or_dash(row.parent.map(|r| r.0), After::Blank);
@@ -40,6 +41,7 @@ pub fn row_line(row: Row, buf: &mut [u8]) -> Result<usize, ShortBuffer>
 pub fn refusal_line(refusal: Refusal, buf: &mut [u8]) -> Result<usize, ShortBuffer>
     ensures { Lined (refusal_bytes refusal) buf.old result buf.new }
 {
+    room_in(buf)?;
     let mut line = Line::new();
     line.word("refused", After::Blank);
     line.number(refusal.number, After::Blank);

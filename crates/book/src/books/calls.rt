@@ -53,6 +53,10 @@ impl Book {
         let mut found = RowNo(0);
         guard.cursor.next = 0;
         while let Some(run) = table.run(guard.cursor.next) {
+            // A run begins with its row, so that none of the rows after the home has it.
+            if run.start > home {
+                break;
+            }
             if run.contains(&home) {
                 found = RowNo(run.start);
             }

@@ -185,7 +185,14 @@ impl<'a> Draft<'a> {
 
     // The steps on walks from first to last.
     fn on_walks(&self, heap: Global) -> Result<StepSet, AllocError> {
-        let turned: Vec<Ends> = self.links.iter().map(|ends| ends.turned()).collect(heap)?;
+        let turned: Vec<Ends> = self
+            .links
+            .iter()
+            .map(|&Ends { tail, head }| Ends {
+                tail: head,
+                head: tail,
+            })
+            .collect(heap)?;
         let after = next_steps(self.steps(), &self.links, None, heap)?;
         let before = next_steps(self.steps(), &turned, None, heap)?;
         Ok(reached(&after, FIRST) & reached(&before, LAST))
@@ -201,33 +208,52 @@ impl<'a> Draft<'a> {
             .iter()
             .filter_map(|step| self.logics.get(usize::from(step.0)).copied())
             .collect(heap)?;
-        let links = self.links_by(&order, heap)?;
-        let (Some(first), Some(last)) = (number_in(&order, FIRST), number_in(&order, LAST)) else {
+        let numbers = self.numbers_by(&order, heap)?;
+        let links = self.links_by(&numbers, heap)?;
+        let (Some(first), Some(last)) = (number_of(&numbers, FIRST), number_of(&numbers, LAST))
+        else {
             return Ok(None);
         };
         Ok(Sketch::new(links, logics, first, last))
     }
 
-    // The links, by chance in a new order, between the steps of this order, which are numbered by it.
-    fn links_by(&mut self, order: &[StepNo], heap: Global) -> Result<Vec<Ends>, AllocError> {
+    // For each step its new number, which is its place in the order, if it stands there.
+    fn numbers_by(
+        &self,
+        order: &[StepNo],
+        heap: Global,
+    ) -> Result<Vec<Option<StepNo>>, AllocError> {
+        let mut numbers = vec![in heap; None; self.logics.len()]?;
+        for (number, step) in (0..).map(StepNo).zip(order) {
+            if let Some(place) = numbers.get_mut(usize::from(step.0)) {
+                *place = Some(number);
+            }
+        }
+        Ok(numbers)
+    }
+
+    // The links, by chance in a new order, between the steps that have a number.
+    fn links_by(
+        &mut self,
+        numbers: &[Option<StepNo>],
+        heap: Global,
+    ) -> Result<Vec<Ends>, AllocError> {
         let mut links = Vec::from_slice(heap, &self.links)?;
         self.dice.shuffle(&mut links);
         links
             .iter()
             .filter_map(|ends| {
                 Some(Ends {
-                    tail: number_in(order, ends.tail)?,
-                    head: number_in(order, ends.head)?,
+                    tail: number_of(numbers, ends.tail)?,
+                    head: number_of(numbers, ends.head)?,
                 })
             })
             .collect(heap)
     }
 }
 
-// The place of the step in the order, its new number.
-fn number_in(order: &[StepNo], step: StepNo) -> Option<StepNo> {
-    let place = order.iter().position(|other| *other == step)?;
-    u16::try_from(place).ok().map(StepNo)
+fn number_of(numbers: &[Option<StepNo>], step: StepNo) -> Option<StepNo> {
+    numbers.get(usize::from(step.0)).copied()?
 }
 
 fn some_logic(dice: &mut Dice) -> Logic {

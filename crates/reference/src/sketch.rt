@@ -48,11 +48,19 @@ impl Sketch {
         u16::try_from(self.links.len()).unwrap_or(u16::MAX)
     }
 
-    // Every link runs the other way, first and last change places. Apart from what the search turns: the reference shares no code with it.
+    // Every link runs the other way, first and last change places. Apart from what the search turns, and not by `Ends::turned`, which the search goes by: the reference shares no code with it.
     pub fn turned(&self, heap: Global) -> Result<Sketch, AllocError> {
+        let links = self
+            .links
+            .iter()
+            .map(|&Ends { tail, head }| Ends {
+                tail: head,
+                head: tail,
+            })
+            .collect(heap)?;
         Ok(Sketch {
             steps: self.steps,
-            links: self.links.iter().map(|ends| ends.turned()).collect(heap)?,
+            links,
             logics: Vec::from_slice(heap, &self.logics)?,
             first: self.last,
             last: self.first,

@@ -51,7 +51,8 @@ impl GatewayTable {
         ensures reads { Reading text.now (meaning_of self.old) result (meaning_of self.new) }
         ensures gives_back { GivesBack text.now result (meaning_of self.new) }
     {
-        *self = table_of(text, *self.graph.links.allocator())?;
+        let table = table_of(text, *self.graph.links.allocator())?;
+        *self = table;
         Ok(())
     }
 }

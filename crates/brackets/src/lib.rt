@@ -4,8 +4,8 @@
 pub mod holding;
 pub mod levels;
 pub mod spanning;
-mod starting;
-mod sweeping;
+pub mod starting;
+pub mod sweeping;
 
 pub use holding::{Bracket, Name, Sweep};
 pub use spanning::Spanning;

@@ -1,5 +1,5 @@
 // What starts at each number: the back links, before any number is handled.
-ghost use Rattle.std.specs.Prelude.{◌≡◌, ℕ, ◌+◌, ◌^◌, ◌<◌, false, [], length, replicate, IfOk, vec_len, OnOk, slice_index_or};
+ghost use Rattle.std.specs.Prelude.{◌≡◌, ℕ, ◌+◌, ◌^◌, ◌<◌, false, [], length, replicate, IfOk, vec_len, OnOk, OnErr, slice_index_or};
 ghost use Rattle.lists.specs.Many.{row, Reads};
 ghost use Rattle.naming.specs.DepthFirst.{of_tree};
 ghost use Rattle.search.specs.Spans.{link_of};
@@ -45,6 +45,7 @@ impl Sweep {
         requires room { (level self.old.levels.items to).ends + 1 < 2 ^ 32 }
         ensures levels { OnOk result (self.new.levels.items ≡ started self.old.levels.items from to) }
         ensures rows { OnOk result (Reads self.new.brackets (with_start (vec_len self.old.levels) (row self.old.brackets) link from to)) }
+        ensures kept { OnErr result ((self.new.brackets ≡ self.old.brackets) × (self.new.levels ≡ self.old.levels)) }
     {
         let own = self.levels.len() + from as usize;
         self.brackets.push_at(own, Bracket { item: link, to })?;

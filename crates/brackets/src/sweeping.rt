@@ -9,7 +9,7 @@ ghost use Rattle.brackets.specs.Live.{live, left, passed, with_cap, capped_level
 ghost use Rattle.brackets.specs.Method.{size_of, Whole};
 ghost use Rattle.brackets.specs.Turned.{top_after, rows_after, name_after, levels_after, Fits};
 
-use crate::holding::{Bracket, Name, Sweep};
+pub use crate::holding::{Bracket, Name, Sweep};
 use crate::spanning::Spanning;
 use lists::{Lists, NoMemory};
 use search::Visit;

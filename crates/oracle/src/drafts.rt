@@ -183,7 +183,7 @@ impl<'a> Draft<'a> {
         }
     }
 
-    // The steps on walks from first to last.
+    // The steps on walks from first to last. The links are turned here, and not by `Ends::turned`, which the search goes by: an error there would leave no plan to compare.
     fn on_walks(&self, heap: Global) -> Result<StepSet, AllocError> {
         let turned: Vec<Ends> = self
             .links

@@ -7,10 +7,11 @@ use Rattle.std.proofs.lemmas.List.{get_or_append_left, get_or_default, get_or_pu
 use Rattle.std.proofs.Math.ListN.{get_or-map}
 use Rattle.rows.specs.declared.nesting.Fragment.{Fragment}
 use Rattle.rows.specs.declared.nesting.Site.{Site}
-use Rattle.rows.specs.Bounds.{Below}
-use Rattle.rows.specs.Nests.{no_fragment, site_of, SiteIn, Sites, ExitIn, Exits, Placed}
+use Rattle.model.specs.declared.numbers.LinkNo.{LinkNo}
+use Rattle.theory.specs.Each.{Each}
+use Rattle.rows.specs.Nests.{no_fragment, site_of, SiteIn, Sites, LinkIn, Placed}
 
-pub site-read : {m : ℕ} (fs : List Fragment) (k : ℕ) (f : Fragment) (p : Site) → Sites m fs → k < length fs → f ≡ get_or fs k f → f.site ≡ Some p → (p.parent < k) × Below m p.entry
+pub site-read : (fs : List Fragment) (k : ℕ) (f : Fragment) (p : Site) → Sites fs → k < length fs → f ≡ get_or fs k f → f.site ≡ Some p → p.parent < k
 site-read fs k f p sites lt e is = sites k lt p (ap site_of (get_or_default fs k no_fragment f lt ∙ sym e) ∙ is)
 
 pub length-same : (fs gs : List Fragment) → map site_of gs ≡ map site_of fs → length gs ≡ length fs
@@ -20,15 +21,15 @@ site-same : (fs gs : List Fragment) (k : ℕ) → map site_of gs ≡ map site_of
 site-same fs gs k e = sym (get_or-map site_of fs k no_fragment) ∙ ap (λ (t : List (Option Site)). get_or t k None) (sym e) ∙ get_or-map site_of gs k no_fragment
 
 -- fragments with the sites of fs
-pub sites-same : (m : ℕ) (fs gs : List Fragment) → map site_of gs ≡ map site_of fs → Sites m fs → Sites m gs
-sites-same m fs gs e sites k lt p is =
+pub sites-same : (fs gs : List Fragment) → map site_of gs ≡ map site_of fs → Sites fs → Sites gs
+sites-same fs gs e sites k lt p is =
     let long = length-same fs gs e in
     sites k (omega arith) p (site-same fs gs k e ∙ is)
 
-pub exits-same : (m : ℕ) (fs gs : List Fragment) → map site_of gs ≡ map site_of fs → Exits m fs → Exits m gs
-exits-same m fs gs e exits k lt p is =
+pub linked-same : (link : Site → LinkNo) (m : ℕ) (fs gs : List Fragment) → map site_of gs ≡ map site_of fs → Each (LinkIn link m) no_fragment fs → Each (LinkIn link m) no_fragment gs
+linked-same link m fs gs e linked k lt p is =
     let long = length-same fs gs e in
-    exits k (omega arith) p (site-same fs gs k e ∙ is)
+    linked k (omega arith) p (site-same fs gs k e ∙ is)
 
 pub placed-same : (fs gs : List Fragment) → map site_of gs ≡ map site_of fs → Placed fs → Placed gs
 placed-same fs gs e placed k first lt =
@@ -40,17 +41,17 @@ pub written : (v : Vec Fragment Global) (gs : List Fragment) → map site_of gs 
 written v gs e = ap (map site_of) (with_items_is v gs (length-same (vec_items v) gs e ∙ sym v.ok.0)) ∙ e
 
 -- the last of some fragments, and those before it
-pub site-last : (m : ℕ) (fs : List Fragment) (f : Fragment) → Sites m (fs ++ f ∷ []) → SiteIn m (length fs) f
-site-last m fs f all = subst (SiteIn m (length fs)) (get_or_push fs f no_fragment (length fs) refl) (all (length fs) (omega (arith, length_push fs f)))
+pub site-last : (fs : List Fragment) (f : Fragment) → Sites (fs ++ f ∷ []) → SiteIn (length fs) f
+site-last fs f all = subst (SiteIn (length fs)) (get_or_push fs f no_fragment (length fs) refl) (all (length fs) (omega (arith, length_push fs f)))
 
-pub sites-front : (m : ℕ) (fs : List Fragment) (f : Fragment) → Sites m (fs ++ f ∷ []) → Sites m fs
-sites-front m fs f all k lt = subst (SiteIn m k) (get_or_append_left fs (f ∷ []) no_fragment k lt) (all k (omega (arith, length_push fs f)))
+pub sites-front : (fs : List Fragment) (f : Fragment) → Sites (fs ++ f ∷ []) → Sites fs
+sites-front fs f all k lt = subst (SiteIn k) (get_or_append_left fs (f ∷ []) no_fragment k lt) (all k (omega (arith, length_push fs f)))
 
-pub exit-last : (m : ℕ) (fs : List Fragment) (f : Fragment) → Exits m (fs ++ f ∷ []) → ExitIn m f
-exit-last m fs f all = subst (ExitIn m) (get_or_push fs f no_fragment (length fs) refl) (all (length fs) (omega (arith, length_push fs f)))
+pub linked-last : (link : Site → LinkNo) (m : ℕ) (fs : List Fragment) (f : Fragment) → Each (LinkIn link m) no_fragment (fs ++ f ∷ []) → LinkIn link m f
+linked-last link m fs f all = subst (LinkIn link m) (get_or_push fs f no_fragment (length fs) refl) (all (length fs) (omega (arith, length_push fs f)))
 
-pub exits-front : (m : ℕ) (fs : List Fragment) (f : Fragment) → Exits m (fs ++ f ∷ []) → Exits m fs
-exits-front m fs f all k lt = subst (ExitIn m) (get_or_append_left fs (f ∷ []) no_fragment k lt) (all k (omega (arith, length_push fs f)))
+pub linked-front : (link : Site → LinkNo) (m : ℕ) (fs : List Fragment) (f : Fragment) → Each (LinkIn link m) no_fragment (fs ++ f ∷ []) → Each (LinkIn link m) no_fragment fs
+linked-front link m fs f all k lt = subst (LinkIn link m) (get_or_append_left fs (f ∷ []) no_fragment k lt) (all k (omega (arith, length_push fs f)))
 
 pub placed-last : (fs : List Fragment) (f : Fragment) → Placed (fs ++ f ∷ []) → 0 < length fs → IsSome f.site
 placed-last fs f all first = subst (λ (g : Fragment). IsSome g.site) (get_or_push fs f no_fragment (length fs) refl) (all (length fs) first (omega (arith, length_push fs f)))

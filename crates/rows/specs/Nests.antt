@@ -30,21 +30,31 @@ home_after fs homes l e (Some x) = length fs
 abbrev pub put_in : Fragment → Site → Fragment
 put_in around s = record { site = Some s; depth = counted around.depth true; own = none_own; inside = 0 }
 
--- a fragment's parent is among the first n, its entry among m links
-abbrev pub SiteIn : ℕ → ℕ → Fragment → Type 0
-SiteIn m n f = (p : Site) → f.site ≡ Some p → (p.parent < n) × Below m p.entry
+-- a fragment's parent is among the first n
+abbrev pub SiteIn : ℕ → Fragment → Type 0
+SiteIn n f = (p : Site) → f.site ≡ Some p → p.parent < n
 
 -- each fragment stands after its parent
-abbrev pub Sites : ℕ → List Fragment → Type 0
-Sites m fs = (k : ℕ) → k < length fs → SiteIn m k (slice_index_or fs k no_fragment)
+abbrev pub Sites : List Fragment → Type 0
+Sites fs = (k : ℕ) → k < length fs → SiteIn k (slice_index_or fs k no_fragment)
 
--- a fragment's exit is among m links
-abbrev pub ExitIn : ℕ → Fragment → Type 0
-ExitIn m f = (p : Site) → f.site ≡ Some p → Below m p.exit
+-- a link of a fragment's site, its entry or its exit, is among m links
+abbrev pub LinkIn : (Site → LinkNo) → ℕ → Fragment → Type 0
+LinkIn link m f = (p : Site) → f.site ≡ Some p → Below m (link p)
+
+abbrev pub entry_of : Site → LinkNo
+entry_of p = p.entry
+
+abbrev pub exit_of : Site → LinkNo
+exit_of p = p.exit
+
+-- each fragment's entry is among m links
+abbrev pub Entries : ℕ → List Fragment → Type 0
+Entries m = Each (LinkIn entry_of m) no_fragment
 
 -- each fragment's exit is among m links
 abbrev pub Exits : ℕ → List Fragment → Type 0
-Exits m = Each (ExitIn m) no_fragment
+Exits m = Each (LinkIn exit_of m) no_fragment
 
 -- each fragment but the first, which is the whole plan, has a site
 abbrev pub Placed : List Fragment → Type 0

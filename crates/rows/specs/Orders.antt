@@ -2,20 +2,20 @@
 use Rattle.std.specs.Prelude.{ℕ, ◌<◌, List, [], ◌∷◌, ◌++◌, slice_set}
 use Rattle.std.specs.Option.{IsSome}
 use Rattle.lists.specs.Many.{row}
-use Rattle.rows.specs.Nests.{no_fragment, SiteIn, ExitIn}
+use Rattle.rows.specs.Nests.{no_fragment, entry_of, exit_of, SiteIn, LinkIn}
 use Rattle.rows.specs.declared.arranging.Record.{Record}
 
 -- of n fragments, number k stands after number j
 abbrev pub After : ℕ → ℕ → ℕ → Type 0
 After n j k = (j < k) × (k < n)
 
--- the record's fragment and its parent are among n fragments, its entry among m links
-abbrev pub Numbered : ℕ → ℕ → Record → Type 0
-Numbered m n r = (r.number < n) × SiteIn m n r.fragment
+-- the record's fragment and its parent are among n fragments
+abbrev pub Numbered : ℕ → Record → Type 0
+Numbered n r = (r.number < n) × SiteIn n r.fragment
 
--- the same, and its exit is among the links too
+-- the same, and its entry and its exit are among m links
 abbrev pub Known : ℕ → ℕ → Record → Type 0
-Known m n r = Numbered m n r × ExitIn m r.fragment
+Known m n r = Numbered n r × LinkIn entry_of m r.fragment × LinkIn exit_of m r.fragment
 
 -- the record's fragment has a site unless it is number 0, the whole plan
 abbrev pub Lies : Record → Type 0

@@ -3,7 +3,7 @@ ghost use Rattle.std.specs.Prelude.{◌≡◌, ◌^◌, ◌<◌, ◌≤◌, [], 
 ghost use Rattle.std.specs.List.{All};
 ghost use Rattle.lists.specs.Many.{row, EachItem};
 ghost use Rattle.rows.specs.Bounds.{AllBelow};
-ghost use Rattle.rows.specs.Nests.{Exits};
+ghost use Rattle.rows.specs.Nests.{Entries, Exits};
 ghost use Rattle.rows.specs.Orders.{After, Known, Lies, Numbered, gathered};
 
 use crate::nesting::{Fragment, Nesting};
@@ -47,7 +47,7 @@ impl Nesting {
     // For each fragment its record and those of all below it, which end up in the list of the whole plan.
     pub fn in_order(&self, heap: Global) -> Result<Lists<Record>, NoMemory>
         requires { length self.now.fragments.items < 2 ^ 16 }
-        ensures { IfOk result (λ t. (length t ≡ length self.now.fragments.items) × EachItem (λ _. Numbered (length self.now.entered.items) (length self.now.fragments.items)) t × (Exits (length self.now.entered.items) self.now.fragments.items → EachItem (λ _. Known (length self.now.entered.items) (length self.now.fragments.items)) t) × EachItem (λ _. Lies) t × (sum_by length t ≤ length t)) }
+        ensures { IfOk result (λ t. (length t ≡ length self.now.fragments.items) × EachItem (λ _. Numbered (length self.now.fragments.items)) t × (Entries (length self.now.entered.items) self.now.fragments.items → Exits (length self.now.entered.items) self.now.fragments.items → EachItem (λ _. Known (length self.now.entered.items) (length self.now.fragments.items)) t) × EachItem (λ _. Lies) t × (sum_by length t ≤ length t)) }
     {
         let mut children = self.children(heap)?;
         let mut below = Lists::new(heap, self.fragments.len())?;

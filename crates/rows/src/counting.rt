@@ -74,7 +74,7 @@ fn count_own(fragments: &mut [Fragment], homes: &[u16], logics: &[Logic], degree
 
 // Adds the steps inside each fragment to those inside its parent, which stands before it.
 fn count_inside(fragments: &mut [Fragment])
-    requires { (m : ℕ) × Sites m fragments.old }
+    requires { Sites fragments.old }
     ensures { map site_of fragments.new ≡ map site_of fragments.old }
 {
     // By number, since a fragment's parent, which is written, stands in the same slice.

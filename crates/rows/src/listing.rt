@@ -3,7 +3,7 @@ ghost use Rattle.std.specs.Prelude.{◌≡◌, ◌^◌, ◌<◌, ◌≤◌, map,
 ghost use Rattle.std.specs.List.{All};
 ghost use Rattle.rows.specs.Bounds.{AllBelow};
 ghost use Rattle.rows.specs.Listed.{row_by};
-ghost use Rattle.rows.specs.Nests.{ExitIn, SiteIn};
+ghost use Rattle.rows.specs.Nests.{entry_of, exit_of, LinkIn, SiteIn};
 ghost use Rattle.rows.specs.Orders.{Known};
 ghost use Rattle.rows.specs.Runs.{NestedRuns};
 ghost use Rattle.rows.specs.declared.listing.RowRun.{RowRun};
@@ -51,8 +51,9 @@ impl Nesting {
 impl Classed<'_> {
     // The row of a fragment: its kind by the steps that its entry leads to and that its exit leaves.
     fn row(&self, number: RowNo, fragment: Fragment, row_of: &[u16], degrees: &[Degree]) -> Row
-        requires site { SiteIn (length self.now.links.now) (length row_of.now) fragment }
-        requires exit { ExitIn (length self.now.links.now) fragment }
+        requires site { SiteIn (length row_of.now) fragment }
+        requires entry { LinkIn entry_of (length self.now.links.now) fragment }
+        requires exit { LinkIn exit_of (length self.now.links.now) fragment }
         requires degrees { length degrees.now ≡ length self.now.logics.now }
         ensures { result ≡ row_by self.now.links.now degrees.now row_of.now number fragment }
     {

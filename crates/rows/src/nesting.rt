@@ -1,7 +1,7 @@
 // How the fragments nest, found along the order of search: a link leaves the innermost fragment of its tail if it is the exit, and enters the fragment whose entry it is.
 ghost use Rattle.std.specs.Prelude.{◌≡◌, ℕ, ◌+◌, ◌^◌, ◌<◌, ◌≤◌, [], ◌∷◌, ◌++◌, length, IfSome, IfOk, OnOk, slice_index_or, slice_set};
 ghost use Rattle.rows.specs.Bounds.{AllBelow, Below, LinksBelow, SomeBelow, StepsBelow};
-ghost use Rattle.rows.specs.Nests.{Sites, Exits, Placed, Entered, no_fragment, left_of, home_after, put_in};
+ghost use Rattle.rows.specs.Nests.{Sites, Entries, Exits, Placed, Entered, no_fragment, left_of, home_after, put_in};
 
 use crate::kinding::Own;
 use lists::NoMemory;
@@ -32,7 +32,7 @@ pub struct Nesting {
     pub homes: Vec<u16>,
     pub entered: Vec<Option<u16>>,
     ghost some: { 1 ≤ length fragments.items },
-    ghost sites: { Sites (length entered.items) fragments.items },
+    ghost sites: { Sites fragments.items },
     ghost placed: { Placed fragments.items },
     ghost homed: { AllBelow (length fragments.items) homes.items },
     ghost known: { Entered (length fragments.items) entered.items },
@@ -71,6 +71,7 @@ impl Nesting {
         requires entry { site.entry.0 < length self.old.entered.items }
         requires few { length self.old.fragments.items < 2 ^ 16 }
         ensures made { IfOk result (λ k. (k ≡ length self.old.fragments.items) × (self.new.fragments.items ≡ self.old.fragments.items ++ put_in (slice_index_or self.old.fragments.items site.parent no_fragment) site ∷ []) × (self.new.entered.items ≡ slice_set self.old.entered.items site.entry.0 (Some k))) }
+        ensures entries { (m : ℕ) → Below m site.entry → Entries m self.old.fragments.items → Entries m self.new.fragments.items }
         ensures exits { (m : ℕ) → Below m site.exit → Exits m self.old.fragments.items → Exits m self.new.fragments.items }
         ensures more { length self.new.fragments.items ≤ length self.old.fragments.items + 1 }
         ensures homes { self.new.homes ≡ self.old.homes }
@@ -99,6 +100,7 @@ impl Nesting {
         requires head { ends.head.0 < length self.old.homes.items }
         requires few { length self.old.fragments.items < 2 ^ 16 }
         ensures home { OnOk result (self.new.homes.items ≡ slice_set self.old.homes.items ends.head.0 (home_after self.old.fragments.items self.old.homes.items entry ends exit)) }
+        ensures entries { (m : ℕ) → Below m entry → Entries m self.old.fragments.items → Entries m self.new.fragments.items }
         ensures exits { (m : ℕ) → IfSome exit (Below m) → Exits m self.old.fragments.items → Exits m self.new.fragments.items }
         ensures more { length self.new.fragments.items ≤ length self.old.fragments.items + 1 }
         ensures steps { length self.new.homes.items ≡ length self.old.homes.items }
@@ -130,7 +132,7 @@ pub fn nest(
     requires order { LinksBelow (length links.now) order.now }
     requires exits { length exits.now ≡ length links.now }
     requires few { length order.now < 2 ^ 15 }
-    ensures { IfOk result (λ t. (length t.homes.items ≡ steps) × (length t.entered.items ≡ length links.now) × (length t.fragments.items ≤ length order.now + 1) × ((m : ℕ) → SomeBelow m exits.now → Exits m t.fragments.items)) }
+    ensures { IfOk result (λ t. (length t.homes.items ≡ steps) × (length t.entered.items ≡ length links.now) × (length t.fragments.items ≤ length order.now + 1) × Entries (length links.now) t.fragments.items × ((m : ℕ) → SomeBelow m exits.now → Exits m t.fragments.items)) }
 {
     let mut nesting = Nesting::new(steps, links.len(), heap)?;
     for link in order {

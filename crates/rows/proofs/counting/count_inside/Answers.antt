@@ -6,7 +6,7 @@ use Rattle.rows.proofs.counting.count_inside.Goals as goal
 
 pub bounds-fragments-site : goal.bounds-fragments-site
 bounds-fragments-site c =
-    let below = (sites-same c.requires.0 c.args.fragments.now c.loop-k.fragments c.loop-k.invariant c.requires.1 _ (omega arith) c.in-Some.site c.in-Some.is).0 in
+    let below = sites-same c.args.fragments.now c.loop-k.fragments c.loop-k.invariant c.requires _ (omega arith) c.in-Some.site c.in-Some.is in
     omega arith
 
 pub loop-k-preserved-in-Some : goal.loop-k-preserved-in-Some

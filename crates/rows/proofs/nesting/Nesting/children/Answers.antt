@@ -28,7 +28,7 @@ pub push_at-requires : goal.push_at-requires
 push_at-requires c =
     let s = c.args.self.now in
     let k = inner (goal.at.push_at-requires c).In-Some in
-    omega (arith, k.1, (site-read (vec_items s.fragments) _ _ _ s.sites k.1 c.index.ensures c.in-Some-site.is).0, c.loop-number.invariant.long)
+    omega (arith, k.1, site-read (vec_items s.fragments) _ _ _ s.sites k.1 c.index.ensures c.in-Some-site.is, c.loop-number.invariant.long)
 
 pub loop-number-preserved-in-Continue-branch-2 : goal.loop-number-preserved-in-Continue-branch-2
 loop-number-preserved-in-Continue-branch-2 c =
@@ -38,7 +38,7 @@ loop-number-preserved-in-Continue-branch-2 c =
     let known = c.loop-number.invariant in
     let k = inner (goal.at.loop-number-preserved-in-Continue-branch-2 c).In-Some in
     let p = c.in-Some-site.site.parent in
-    let below = (site-read (vec_items s.fragments) _ _ _ s.sites k.1 c.index.ensures c.in-Some-site.is).0 in
+    let below = site-read (vec_items s.fragments) _ _ _ s.sites k.1 c.index.ensures c.in-Some-site.is in
     let lt : p < length old = omega (arith, k.1, below, known.long) in
     let e = c.in_ok-push_at.ensures in
     record {

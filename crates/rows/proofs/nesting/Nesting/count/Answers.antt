@@ -9,7 +9,7 @@ pub count_inside-requires : goal.count_inside-requires
 count_inside-requires c =
     let s = c.args.self.now in
     let own = sites-own s.fragments _ _ c.as_slice.result.now c.args.logics.now c.args.degrees.now c.as_mut_slice.ensures.value c.count_own.ensures in
-    (_, sites-same _ (vec_items s.fragments) c.as_mut_slice-2.result.now (ap (map site_of) c.as_mut_slice-2.ensures.value ∙ own) s.sites)
+    sites-same (vec_items s.fragments) c.as_mut_slice-2.result.now (ap (map site_of) c.as_mut_slice-2.ensures.value ∙ own) s.sites
 
 pub invariant_of-self : goal.invariant_of-self
 invariant_of-self c =
@@ -19,7 +19,7 @@ invariant_of-self c =
     let long = length-same (vec_items s.fragments) (vec_items new) kept in
     record {
       some = omega (arith, long, s.some);
-      sites = sites-same _ (vec_items s.fragments) (vec_items new) kept s.sites;
+      sites = sites-same (vec_items s.fragments) (vec_items new) kept s.sites;
       placed = placed-same (vec_items s.fragments) (vec_items new) kept s.placed;
       homed = λ k lt. omega (arith, long, s.homed k lt);
       known = λ k x is. let i = s.known k x is in (i.0, omega (arith, long, i.1));

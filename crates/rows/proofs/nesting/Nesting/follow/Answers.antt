@@ -4,7 +4,7 @@ use Rattle.theory.proofs.Elements.{each_set}
 use Rattle.model.specs.declared.numbers.LinkNo.{LinkNo}
 use Rattle.rows.specs.declared.nesting.Nesting.{Nesting}
 use Rattle.rows.specs.Bounds.{Below}
-use Rattle.rows.specs.Nests.{Exits}
+use Rattle.rows.specs.Nests.{Entries, Exits}
 use Rattle.rows.proofs.nesting.Nesting.follow.Goals as goal
 use Rattle.rows.proofs.nesting.Nesting.follow.Goals.{in-Some+in_ok-inside-in-Some, in-None}
 
@@ -21,6 +21,13 @@ invariant_of-self-clause-homed c =
 
 pub returns-in_err-inside-in-Some-clause-exits : goal.returns-in_err-inside-in-Some-clause-exits
 returns-in_err-inside-in-Some-clause-exits c m exit all = c.in_err-inside-in-Some.ensures.exits m (subst (λ (o : Option LinkNo). IfSome o (Below m)) c.in-Some.is exit) all
+
+pub returns-clause-entries : goal.returns-clause-entries
+returns-clause-entries c m entry all =
+    elim c.match-exit.branch [
+      | in-Some+in_ok-inside-in-Some w ↦ subst (λ (t : Nesting). Entries m (vec_items t.fragments)) (sym w.self-is) (w.in_ok-inside-in-Some.ensures.entries m entry all)
+      | in-None w ↦ subst (λ (t : Nesting). Entries m (vec_items t.fragments)) (sym w.self-is) all
+    ]
 
 pub returns-clause-exits : goal.returns-clause-exits
 returns-clause-exits c m exit all =

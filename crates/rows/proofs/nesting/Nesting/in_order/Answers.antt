@@ -8,10 +8,10 @@ use Rattle.lists.specs.Many.{row, EachItem}
 use Rattle.lists.proofs.Many.{each-set, each-replicate}
 use Rattle.rows.specs.declared.arranging.Record.{Record}
 use Rattle.rows.specs.declared.nesting.Fragment.{Fragment}
-use Rattle.rows.specs.Nests.{SiteIn, Sites, Exits, Placed}
+use Rattle.rows.specs.Nests.{entry_of, exit_of, SiteIn, Sites, Entries, Exits, Placed}
 use Rattle.rows.specs.Orders.{After, Known, Lies, Numbered}
 use Rattle.rows.proofs.Gathers.{length-gathered, sum-gathered, each-put}
-use Rattle.rows.proofs.Sited.{site-last, sites-front, exit-last, exits-front, placed-last, placed-front}
+use Rattle.rows.proofs.Sited.{site-last, sites-front, linked-last, linked-front, placed-last, placed-front}
 use Rattle.rows.proofs.nesting.Nesting.in_order.Goals as goal
 use Rattle.rows.proofs.nesting.Nesting.in_order.Goals.{In-Some}
 
@@ -35,14 +35,14 @@ loop-k-init c =
     let long = length-replicate {A = List Record} c.len.result [] in
     record {
       first = cc;
-      sites = subst (Sites m) (sym all) s.sites;
+      sites = subst Sites (sym all) s.sites;
       placed = subst Placed (sym all) s.placed;
       counted = omega (arith, ap (sum_by length) none, sum_by-replicate {X = List Record} length c.len.result [], ap length all, c.len.ensures, s.fragments.ok.0);
       lists = omega (arith, ap length none, long, c.len.ensures, s.fragments.ok.0);
       same = c.in_ok-children.ensures.0;
       after = c.in_ok-children.ensures.1;
-      numbered = subst (EachItem (λ _. Numbered m n)) (sym none) (each-replicate (λ _. Numbered m n) c.len.result);
-      known = λ e. (subst (Exits m) (sym all) e, subst (EachItem (λ _. Known m n)) (sym none) (each-replicate (λ _. Known m n) c.len.result));
+      numbered = subst (EachItem (λ _. Numbered n)) (sym none) (each-replicate (λ _. Numbered n) c.len.result);
+      known = λ e x. (subst (Entries m) (sym all) e, subst (Exits m) (sym all) x, subst (EachItem (λ _. Known m n)) (sym none) (each-replicate (λ _. Known m n) c.len.result));
       lies = subst (EachItem (λ _. Lies)) (sym none) (each-replicate (λ _. Lies) c.len.result);
     }
 
@@ -72,8 +72,8 @@ loop-k-preserved c =
     let known = c.loop-k.invariant in
     let left = c.next.new.self.iter.iter.rest.now in
     let fragment : Fragment = c.in-Some.fragment.now in
-    let sites : Sites m (left ++ fragment ∷ []) = subst (Sites m) (taken i) known.sites in
-    let site : SiteIn m k fragment = subst (λ (j : ℕ). SiteIn m j fragment) (sym (number i)) (site-last m left fragment sites) in
+    let sites : Sites (left ++ fragment ∷ []) = subst Sites (taken i) known.sites in
+    let site : SiteIn k fragment = subst (λ (j : ℕ). SiteIn j fragment) (sym (number i)) (site-last left fragment sites) in
     let placed : Placed (left ++ fragment ∷ []) = subst Placed (taken i) known.placed in
     let old = c.loop-k.below in
     let moved = row c.loop-k.children k in
@@ -84,19 +84,21 @@ loop-k-preserved c =
     let long : length g ≡ n = ap length e ∙ length-gathered old k moved ∙ known.lists in
     let p = c.in_ok-push_at.ensures in
     let r : Record = record { number = k; fragment = fragment } in
-    let here : Numbered m n r = (within i, λ q is. let at = site q is in (omega (arith, at.0, within i), at.1)) in
+    let here : Numbered n r = (within i, λ q is. omega (arith, site q is, within i)) in
     let lies : Lies r = λ first. placed-last left fragment placed (omega (arith, first, number i)) in
     record {
       first = c.in-Some.ensures.steps.0 ∙ known.first;
-      sites = sites-front m left fragment sites;
+      sites = sites-front left fragment sites;
       placed = placed-front left fragment placed;
       counted = omega (arith, ap (sum_by length) p, ap (sum_by length) e, sum-gathered old k moved lt after, sum_by-set length g k (r ∷ row g k) [] (omega (arith, long, within i)), ap length (taken i), length_push left fragment, known.counted);
       lists = ap length p ∙ length-set g k _ ∙ long;
       same = ap length c.gather.ensures.children ∙ length-set c.loop-k.children k [] ∙ known.same;
       after = subst (EachItem (After n)) (sym c.gather.ensures.children) (each-set (After n) c.loop-k.children k [] known.after (All-nil (After n k)));
-      numbered = subst (EachItem (λ _. Numbered m n)) (sym p) (each-put (Numbered m n) old g k moved r lt after e here known.numbered);
-      known = λ all.
-          let exits : Exits m (left ++ fragment ∷ []) = subst (Exits m) (taken i) (known.known all).0 in
-          (exits-front m left fragment exits, subst (EachItem (λ _. Known m n)) (sym p) (each-put (Known m n) old g k moved r lt after e (here, exit-last m left fragment exits) (known.known all).1));
+      numbered = subst (EachItem (λ _. Numbered n)) (sym p) (each-put (Numbered n) old g k moved r lt after e here known.numbered);
+      known = λ entries exits.
+          let told = known.known entries exits in
+          let entered : Entries m (left ++ fragment ∷ []) = subst (Entries m) (taken i) told.0 in
+          let left_by : Exits m (left ++ fragment ∷ []) = subst (Exits m) (taken i) told.1 in
+          (linked-front entry_of m left fragment entered, linked-front exit_of m left fragment left_by, subst (EachItem (λ _. Known m n)) (sym p) (each-put (Known m n) old g k moved r lt after e (here, linked-last entry_of m left fragment entered, linked-last exit_of m left fragment left_by) told.2));
       lies = subst (EachItem (λ _. Lies)) (sym p) (each-put Lies old g k moved r lt after e lies known.lies);
     }

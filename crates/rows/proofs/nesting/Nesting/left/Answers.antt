@@ -3,4 +3,4 @@ use Rattle.rows.proofs.Sited.{site-read}
 use Rattle.rows.proofs.nesting.Nesting.left.Goals as goal
 
 pub returns-then-eq-clause-within : goal.returns-then-eq-clause-within
-returns-then-eq-clause-within c = omega (arith, (site-read _ _ _ _ c.args.self.now.sites c.requires c.index.ensures c.in-Some.is).0, c.requires)
+returns-then-eq-clause-within c = omega (arith, site-read _ _ _ _ c.args.self.now.sites c.requires c.index.ensures c.in-Some.is, c.requires)
